@@ -1,0 +1,97 @@
+-- A const, an operator or a seq that fires gives its node a word; no firing changes arrays.
+use Rattle.std.proofs.Common.{◌≡◌, ℕ, zero, suc, ◌<◌, Bool, true, false, List, [], ◌∷◌, ◌++◌, refl, sym, subst, ap, inl, inr, ◌∙◌, true≢false}
+use Rattle.std.proofs.Common.{◌==◌, length, map, flat_map, slice_get, Some, arith}
+use Rattle.tam_word.specs.Lists.{any_of, changed_at}
+use Rattle.tam_word.proofs.Members.{In}
+use Rattle.tam_graph.specs.declared.kind.Kind.{Kind}
+use Rattle.tam_graph.specs.declared.kind.Kind.TheVariants.{Const, Op as Operate, Seq, Call, Arg, Give, Alloc, Fetch, Store, Cond, Switch, Leave}
+use Rattle.tam_graph.specs.Graphs.{Graph, kind_at, operands_of, block_at, node_in, chosen_branch, is_enter, owner_of}
+use Rattle.tam_split.proofs.Firers.{is_inner}
+use Rattle.tam_flow.specs.Worlds.{World, ActivationState, or_activation, activation_at, its_code, word_among, words_of, has_word, with_word, got, all_got}
+use Rattle.tam_flow.specs.Worlds.{firing_of, fired_with, fired, merges_of}
+use Rattle.tam_flow.specs.Reached.{IsThere}
+use Rattle.tam_flow.proofs.Moves.{word-here}
+
+-- a word that is there
+pub some-word : (es : List (ℕ × ℕ)) (x : ℕ) → any_of (λ e. e.0 == x) es ≡ true → (v : ℕ) × (word_among es x ≡ v ∷ [])
+some-word [] x h = absurd (true≢false (sym h))
+some-word (e ∷ es) x h = go (e.0 == x) refl (some-word es x)
+  where
+    go : (t : Bool) → (e.0 == x) ≡ t → (any_of (λ d. d.0 == x) es ≡ true → (v : ℕ) × (word_among es x ≡ v ∷ [])) → (v : ℕ) × (word_among (e ∷ es) x ≡ v ∷ [])
+    go true p f = (e.1, rw (word_among, p) refl)
+    go false p f = let r = f (rw (any_of, p) at h) in (r.0, rw (word_among, p) r.1)
+
+-- where each node has a word there are words of them, as many
+pub some-words : (w : World) (i : ℕ) (xs : List ℕ) → ((a : ℕ) → In a xs → has_word w i a ≡ true)
+    → (vs : List ℕ) × (words_of w i xs ≡ vs ∷ []) × (length vs ≡ length xs)
+some-words w i [] h = ([], refl, refl)
+some-words w i (x ∷ xs) h =
+    let u = some-word (activation_at w i).words x (h x (inl refl)) in
+    let r = some-words w i xs (λ a m. h a (inr m)) in
+    (u.0 ∷ r.0, ap (λ l. flat_map (λ v. map (λ vs. v ∷ vs) (words_of w i xs)) l) u.1 ∙ ap (λ l. map (λ vs. u.0 ∷ vs) l ++ []) r.1, ap suc r.2)
+
+-- a node that got a word has one
+pub got-has : (w : World) (i x u : ℕ) → IsThere w i → has_word (got w i x u) i x ≡ true
+got-has w i x u h =
+    let r = changed-here i w.activations h in
+    ap (λ o. any_of (λ e. e.0 == x) (or_activation o).words) r.1 ∙ word-here x u r.0
+  where
+    changed-here : (j : ℕ) (xs : List ActivationState) → j < length xs → (a : ActivationState) ×
+        (slice_get (changed_at j (with_word x u) xs) j ≡ Some (with_word x u a))
+    changed-here j [] l = absurd (omega arith)
+    changed-here zero (a ∷ xs) l = (a, refl)
+    changed-here (suc j) (a ∷ xs) l = changed-here j xs (omega arith)
+
+module _ (g : Graph) (w : World) (i x : ℕ) (there : IsThere w i) where
+  -- by what the node does
+  gives : (k : Kind) (vs : List ℕ) → is_inner k ≡ true → length vs ≡ length (operands_of (its_code g w i) k) → has_word
+      (firing_of g w i x k vs).world i x ≡ true
+  gives (Const v) [] n e = got-has w i x v there
+  gives (Const v) (a ∷ vs) n e = absurd (omega arith)
+  gives (Operate o a b) [] n e = absurd (omega arith)
+  gives (Operate o a b) (u ∷ []) n e = absurd (omega arith)
+  gives (Operate o a b) (u ∷ v ∷ []) n e = got-has w i x _ there
+  gives (Operate o a b) (u ∷ v ∷ z ∷ vs) n e = absurd (omega arith)
+  gives (Seq a b) [] n e = absurd (omega arith)
+  gives (Seq a b) (u ∷ []) n e = absurd (omega arith)
+  gives (Seq a b) (u ∷ v ∷ []) n e = got-has w i x u there
+  gives (Seq a b) (u ∷ v ∷ z ∷ vs) n e = absurd (omega arith)
+  gives k vs n e = absurd (true≢false (sym n))
+
+  -- a firing of a node whose operands have words
+  pub fired-gives : is_inner (kind_at (its_code g w i) x) ≡ true →
+      ((a : ℕ) → In a (operands_of (its_code g w i) (kind_at (its_code g w i) x)) → has_word w i a ≡ true)
+      → has_word (fired g w i x).world i x ≡ true
+  fired-gives n h =
+      let r = some-words w i (operands_of (its_code g w i) (kind_at (its_code g w i) x)) h in
+      subst (λ l. has_word (fired_with g w i x l).world i x ≡ true) (sym r.1) (gives (kind_at (its_code g w i) x) r.0 n r.2)
+
+-- words change no arrays
+all_got-arrays : (w : World) (i : ℕ) (xs : List ℕ) (u : ℕ) → (all_got w i xs u).arrays ≡ w.arrays
+all_got-arrays w i [] u = refl
+all_got-arrays w i (x ∷ xs) u = all_got-arrays (got w i x u) i xs u
+
+module _ (g : Graph) (w : World) (i x : ℕ) where
+  -- nor does a firing, by what the node does
+  firing-arrays : (k : Kind) (vs : List ℕ) → (firing_of g w i x k vs).world.arrays ≡ w.arrays
+  firing-arrays (Const v) [] = refl
+  firing-arrays (Operate o a b) (u ∷ v ∷ []) = refl
+  firing-arrays (Seq a b) (u ∷ v ∷ []) = refl
+  firing-arrays (Call c) [] = refl
+  firing-arrays (Arg f k a) (v ∷ p ∷ []) = refl
+  firing-arrays (Give k a) (v ∷ []) = refl
+  firing-arrays (Alloc n) (v ∷ []) = refl
+  firing-arrays (Fetch a j) (u ∷ v ∷ []) = refl
+  firing-arrays (Store a j b) (t ∷ u ∷ v ∷ []) = refl
+  firing-arrays (Cond p y n) (v ∷ []) = refl
+  firing-arrays (Switch c k a) (u ∷ v ∷ []) = all_got-arrays w i (node_in (its_code g w i) (chosen_branch (its_code g w i) c u) (is_enter k)) v
+  firing-arrays (Leave k a) (v ∷ []) = all_got-arrays w i (merges_of (its_code g w i) k (owner_of (its_code g w i) (block_at (its_code g w i) x))) v
+  firing-arrays k vs = refl
+
+  -- whatever the node is
+  pub fired-arrays : (fired g w i x).world.arrays ≡ w.arrays
+  fired-arrays = go (words_of w i (operands_of (its_code g w i) (kind_at (its_code g w i) x)))
+    where
+      go : (l : List (List ℕ)) → (fired_with g w i x l).world.arrays ≡ w.arrays
+      go [] = refl
+      go (vs ∷ more) = firing-arrays (kind_at (its_code g w i) x) vs

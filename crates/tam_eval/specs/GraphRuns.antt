@@ -1,0 +1,128 @@
+-- A run of a graph: one event is the firing of one vertex or the delivery of one message.
+use Rattle.std.specs.Prelude.{ℕ, ◌+◌, Bool, true, false, not, ◌==◌, nat_lt, List, [], ◌∷◌, ◌++◌, map, filter, flat_map, Option, Some, None, slice_get, length, zip}
+use Rattle.tam_word.specs.Lists.{below, all_of, without_place}
+use Rattle.tam_msgs.specs.declared.message.Message.{Message}
+use Rattle.tam_msgs.specs.declared.message.Message.TheVariants.{Frame as Begin, Cells as Make}
+use Rattle.tam_msgs.specs.declared.limits.Limits.{Limits}
+use Rattle.tam_graph.specs.Graphs.{Graph, code_of, kind_at, block_at, operands_of, fires, node_numbers, results_of}
+use Rattle.tam_istr.specs.Cells.{cells_used}
+use Rattle.tam_flow.specs.Worlds.{World, Effect, Delivery, Went, Printed, Faulted, Fault, Second_store, Outside_cells, its_code, has_word, has_entered, fired, delivered, opening, argument_message}
+use Rattle.tam_msgs.specs.Runs.{Item, Choice, Choose_quiet, Choose_run, Choose_delivery, choice, End, Quiet, Double_write, Out_of_range, Frames_full, Cells_full, Budget_spent, Outcome, Next, Ended, run_from, Report, text_of}
+
+-- the state of a run
+pub record GraphState : Type 0 where
+  pub world : World
+  pub ready : List (ℕ × ℕ)  -- activation and node, first in first out
+  pub pending : List Message
+  pub order : List Item
+  pub printed : List (ℕ × ℕ)
+  pub events : ℕ
+
+-- a vertex may fire: it isn't an inlet, its block was entered and its operands have words
+abbrev pub is_enabled : Graph → World → ℕ → ℕ → Bool
+is_enabled g w i x =
+    elim (fires (kind_at (its_code g w i) x)) [
+      | false ↦ false
+      | true ↦ elim (has_entered w i (block_at (its_code g w i) x)) [
+        | false ↦ false
+        | true ↦ all_of (has_word w i) (operands_of (its_code g w i) (kind_at (its_code g w i) x))
+      ]
+    ]
+
+-- the vertices that may fire after an event and might not before it, rising
+abbrev pub joins_at : Graph → World → World → ℕ → List (ℕ × ℕ)
+joins_at g before after i =
+    map (λ x. (i, x)) (filter (λ x. elim (is_enabled g after i x) [ false ↦ false | true ↦ not (is_enabled g before i x) ]) (node_numbers (its_code g after i)))
+
+-- the same of all activations
+abbrev pub joins : Graph → World → World → List (ℕ × ℕ)
+joins g before after = flat_map (joins_at g before after) (below (length after.activations))
+
+-- the state after an event with this effect
+abbrev pub after_effect : Graph → GraphState → Effect → GraphState
+after_effect g s e = record s { world = e.world; ready = s.ready ++ joins g s.world e.world; pending = s.pending ++ e.sends }
+
+-- the vertex that became ready first fires
+abbrev pub fired_first : Graph → GraphState → List (ℕ × ℕ) → Outcome GraphState
+fired_first g s [] = Ended Quiet s
+fired_first g s (v ∷ rest) = Next (after_effect g (record s { ready = rest }) (fired g s.world v.0 v.1))
+
+-- a fault ends the run
+abbrev pub end_of : Fault → End
+end_of (Second_store s t) = Double_write s t
+end_of (Outside_cells s i n) = Out_of_range s i n
+
+-- the state after a delivery
+abbrev pub after_delivery : Graph → GraphState → Delivery → Outcome GraphState
+after_delivery g s (Went e) = Next (after_effect g s e)
+after_delivery g s (Printed k v) = Next (record s { printed = s.printed ++ (k, v) ∷ [] })
+after_delivery g s (Faulted f) = Ended (end_of f) s
+
+-- a frame or cells beyond the limits are refused
+abbrev pub refusal : Limits → World → Message → List End
+refusal limits w (Begin c f x) = elim (length w.activations == limits.frames) [ true ↦ Frames_full limits.frames ∷ [] | false ↦ [] ]
+refusal limits w (Make n f x) = elim (nat_lt limits.cells (cells_used w.arrays + n)) [ true ↦ Cells_full (cells_used w.arrays) n ∷ [] | false ↦ [] ]
+refusal limits w _ = []
+
+-- the delivery, unless the limits refuse it
+abbrev pub delivered_unless : Graph → GraphState → Message → List End → Outcome GraphState
+delivered_unless g s m [] = after_delivery g s (delivered s.world m)
+delivered_unless g s m (e ∷ more) = Ended e s
+
+-- the message at place k is delivered
+abbrev pub delivered_at : Graph → Limits → GraphState → ℕ → Option Message → Outcome GraphState
+delivered_at g limits s k None = Ended Quiet s
+delivered_at g limits s k (Some m) = delivered_unless g (record s { pending = without_place k s.pending }) m (refusal limits s.world m)
+
+-- an event is made, and its item of the order is used
+abbrev pub counted : GraphState → List Item → GraphState
+counted s rest = record s { order = rest; events = s.events + 1 }
+
+-- what was chosen is done, unless the budget is spent
+abbrev pub chosen : Graph → Limits → GraphState → Choice × List Item → Outcome GraphState
+chosen g limits s (Choose_quiet, rest) = Ended Quiet s
+chosen g limits s (Choose_run, rest) = elim (s.events == limits.budget) [ true ↦ Ended (Budget_spent s.events) s | false ↦ fired_first g (counted s rest) s.ready ]
+chosen g limits s (Choose_delivery k, rest) = elim (s.events == limits.budget) [ true ↦ Ended (Budget_spent s.events) s | false ↦ delivered_at g limits (counted s rest) k (slice_get s.pending k) ]
+
+-- something is ready
+abbrev pub some_ready : List (ℕ × ℕ) → Bool
+some_ready [] = false
+some_ready (v ∷ vs) = true
+
+-- one event, or the end of the run
+abbrev pub graph_step : Graph → Limits → GraphState → Outcome GraphState
+graph_step g limits s = chosen g limits s (choice s.order (some_ready s.ready) (length s.pending))
+
+-- before the root
+abbrev pub nothing_begun : World
+nothing_begun = record { activations = []; arrays = []; makers = [] }
+
+-- the root has begun, and the arguments are pending
+abbrev pub graph_opening : Graph → List ℕ → List Item → GraphState
+graph_opening g args order = record {
+  world = opening g;
+  ready = joins g nothing_begun (opening g);
+  pending = flat_map (argument_message g) (zip (below (length args)) args);
+  order = order;
+  printed = [];
+  events = 0;
+}
+
+-- what the text tells of a run
+abbrev pub graph_report : Graph → End × GraphState → Report
+graph_report g e = record {
+  printed = (e.1).printed;
+  how = e.0;
+  results = results_of (code_of g g.main);
+  events = (e.1).events;
+  activations = length (e.1).world.activations;
+  cells = cells_used (e.1).world.arrays;
+}
+
+-- the report of the run of a graph
+abbrev pub graph_told : Graph → List ℕ → List Item → Limits → Report
+graph_told g args order limits = graph_report g (run_from (graph_step g limits) limits.budget (graph_opening g args order))
+
+-- the text of the run of a graph
+unfoldable pub graph_text : Graph → List ℕ → List Item → Limits → List ℕ
+graph_text g args order limits = text_of (graph_told g args order limits)

@@ -1,0 +1,137 @@
+-- The branches of a cond of an accepted graph aren't its code's body, and so a node that comes in stands in a branch.
+use Rattle.std.proofs.Common.{◌≡◌, ℕ, zero, suc, ◌<◌, List, [], ◌∷◌, ◌++◌, true, refl, sym, subst, ap, inl, inr, ◌⊎◌, ⊎_elim, ◌∙◌, length, arith, Some, None}
+use Rattle.std.proofs.Common.{slice_get}
+use Rattle.std.specs.List.{zip}
+use Rattle.std.specs.Prelude.{Option}
+use Rattle.tam_word.specs.Lists.{below}
+use Rattle.tam_word.proofs.Tests.{below-test}
+use Rattle.tam_word.proofs.Members.{In, left-in, right-in, in-append, flat_map-in, in-flat_map, below-in, in-get}
+use Rattle.tam_graph.specs.declared.kind.Kind.{Kind}
+use Rattle.tam_graph.specs.declared.kind.Kind.TheVariants.{Cond, Switch, Enter}
+use Rattle.tam_graph.specs.Graphs.{Code, Graph, code_of, or_block, kind_at, block_at, depth_at, nodes_in, blocks_of, chosen_branch, branch_of_kind}
+use Rattle.tam_graph.specs.Written.{in_branches, in_file_order, in_opening_order, IsWritten}
+use Rattle.tam_graph.specs.Accepted.{IsAccepted, enters_depth}
+use Rattle.tam_graph.proofs.AcceptedFacts.{node-there}
+use Rattle.tam_graph.proofs.Depths.{switch-depth, enters-depth-at}
+use Rattle.std.proofs.lemmas.Option.{slice_get_within}
+
+-- what stands in a branch's list stands in what the same branch has for another
+in-branches-more : {X Z : Type 0} (f : ℕ → List X) (h : ℕ → List Z) (k : Kind) (x : X) (z : Z) → ((d : ℕ) → In x (f d) → In z (h d))
+    → In x (in_branches f k) → In z (in_branches h k)
+in-branches-more f h (Cond p y n) x z more a =
+    ⊎_elim (λ l. left-in z (h y) (h n) (more y l)) (λ r. right-in z (h y) (h n) (more n r)) (in-append x (f y) (f n) a)
+in-branches-more f h k x z more a = absurd a
+
+-- where a cond comes in file order, its branches come in opening order
+opened : (fuel : ℕ) (c : Code) (b x p y n : ℕ) → kind_at c x ≡ Cond p y n → In x (in_file_order fuel c b)
+    → In (y, Some x) (in_opening_order fuel c b) × In (n, Some x) (in_opening_order fuel c b)
+opened zero c b x p y n e a = absurd a
+opened (suc fuel) c b x p y n e a = found (in-flat_map (λ x. x ∷ in_branches (in_file_order fuel c) (kind_at c x)) x (nodes_in c b) a)
+    (λ d. opened fuel c d x p y n e)
+  where
+    at : ℕ → List (ℕ × Option ℕ)
+    at z = in_branches (λ d. (d, Some z) ∷ in_opening_order fuel c d) (kind_at c z)
+
+    found : (z : ℕ) × In z (nodes_in c b) × In x (z ∷ in_branches (in_file_order fuel c) (kind_at c z))
+        → ((d : ℕ) → In x (in_file_order fuel c d) → In (y, Some x) (in_opening_order fuel c d) × In (n, Some x) (in_opening_order fuel c d))
+        → In (y, Some x) (in_opening_order (suc fuel) c b) × In (n, Some x) (in_opening_order (suc fuel) c b)
+    found (z, m, inl same) rest = (into (y, Some x) first, into (n, Some x) second)
+      where
+        cond-here : kind_at c z ≡ Cond p y n
+        cond-here = rw same e
+
+        first : In (y, Some x) (in_branches (λ d. (d, Some z) ∷ in_opening_order fuel c d) (kind_at c z))
+        first = rw (cond-here, same) (inl refl)
+
+        second : In (n, Some x) (in_branches (λ d. (d, Some z) ∷ in_opening_order fuel c d) (kind_at c z))
+        second = rw (cond-here, same) (right-in (n, Some x) ((y, Some x) ∷ in_opening_order fuel c y) ((n, Some x) ∷ in_opening_order fuel c n) (inl refl))
+
+        into : (o : ℕ × Option ℕ) → In o (in_branches (λ d. (d, Some z) ∷ in_opening_order fuel c d) (kind_at c z))
+            → In o (in_opening_order (suc fuel) c b)
+        into o t = flat_map-in (λ (x : ℕ). in_branches (λ d. (d, Some x) ∷ in_opening_order fuel c d) (kind_at c x)) z o (nodes_in c b) m t
+    found (z, m, inr deep) rest = (into (y, Some x) (λ d t. (rest d t).0), into (n, Some x) (λ d t. (rest d t).1))
+      where
+        into : (o : ℕ × Option ℕ) → ((d : ℕ) → In x (in_file_order fuel c d) → In o (in_opening_order fuel c d))
+            → In o (in_opening_order (suc fuel) c b)
+        into o more =
+            flat_map-in (λ (x : ℕ). in_branches (λ d. (d, Some x) ∷ in_opening_order fuel c d) (kind_at c x)) z o (nodes_in c b) m
+            (in-branches-more (in_file_order fuel c) (λ d. (d, Some z) ∷ in_opening_order fuel c d) (kind_at c z) x o (λ d t. inr (more d t)) deep)
+
+-- an element of a list with one more
+get-last : (xs : List ℕ) (y k m : ℕ) → slice_get (xs ++ y ∷ []) k ≡ Some m → (slice_get xs k ≡ Some m) ⊎ ((k ≡ length xs) × (m ≡ y))
+get-last [] y zero m h = inr (refl, cc)
+get-last [] y (suc k) m h = absurd (cc)
+get-last (x ∷ xs) y zero m h = inl h
+get-last (x ∷ xs) y (suc k) m h = ⊎_elim inl (λ r. inr (ap suc r.0, r.1)) (get-last xs y k m h)
+
+-- they are so many
+length-below : (n : ℕ) → length (below n) ≡ n
+length-below zero = refl
+length-below (suc n) = last (below n) ∙ ap suc (length-below n)
+  where
+    last : (xs : List ℕ) → length (xs ++ n ∷ []) ≡ suc (length xs)
+    last [] = refl
+    last (x ∷ xs) = ap suc (last xs)
+
+-- the numbers below n stand at their own places
+get-below : (n k m : ℕ) → slice_get (below n) k ≡ Some m → m ≡ k
+get-below zero k m h = absurd (cc)
+get-below (suc n) k m h = ⊎_elim (get-below n k m) (λ r. r.1 ∙ sym (r.0 ∙ length-below n)) (get-last (below n) n k m h)
+
+-- an element of a zip has the first list's element
+get-zip : {X : Type 0} (ks : List ℕ) (xs : List X) (k : ℕ) (e : ℕ × X) → slice_get (zip ks xs) k ≡ Some e → slice_get ks k ≡ Some e.0
+get-zip [] xs k e h = absurd (cc)
+get-zip (a ∷ ks) [] k e h = absurd (cc)
+get-zip (a ∷ ks) (x ∷ xs) zero e h = ap Some (ap (λ (d : ℕ × _). d.0) (same (a, x) e h))
+  where
+    same : {Y : Type 0} (u v : Y) → ◌≡◌ {A = Option Y} (Some u) (Some v) → u ≡ v
+    same u v h = cc
+get-zip (a ∷ ks) (x ∷ xs) (suc k) e h = get-zip ks xs k e h
+
+module _ (codes : ℕ) (c : Code) (written : IsWritten codes c) where
+  -- a block that was opened isn't block 0
+  opened-later : (y : ℕ) (o : Option ℕ) → In (y, o) (in_opening_order (length c.owners) c 0) → 0 < y
+  opened-later y o a = at (in-get (y, o) (in_opening_order (length c.owners) c 0) a)
+    where
+      at : (k : ℕ) × (slice_get (in_opening_order (length c.owners) c 0) k ≡ Some (y, o)) → 0 < y
+      at (k, e) =
+          let z : slice_get (zip (blocks_of c) c.owners) (suc k) ≡ Some (y, o) = subst (λ l. slice_get l (suc k) ≡ Some (y, o)) written.blocks_in_order e in
+          let m : y ≡ suc k = get-below (length c.owners) (suc k) y (get-zip (blocks_of c) c.owners (suc k) (y, o) z) in
+          omega arith
+
+  -- no branch is the body
+  pub branches-later : (x p y n : ℕ) → kind_at c x ≡ Cond p y n → (0 < y) × (0 < n)
+  branches-later x p y n e =
+      let there : In x (in_file_order (length c.owners) c 0) = subst (In x) (sym written.nodes_in_order)
+      (below-in x (length c.nodes) (node-there c x (λ z. cc))) in
+      let o = opened (length c.owners) c 0 x p y n e there in
+      (opened-later y (Some x) o.0, opened-later n (Some x) o.1)
+
+-- a node of a block that isn't the body is there
+pub block-there : (c : Code) (x : ℕ) → 0 < block_at c x → x < length c.nodes
+block-there c x l = go (slice_get c.nodes x) refl
+  where
+    go : (o : _) → slice_get c.nodes x ≡ o → x < length c.nodes
+    go None e = let z : block_at c x ≡ 0 = ap or_block e in absurd (omega arith)
+    go (Some m) e = slice_get_within c.nodes x m e
+
+-- an `in` of the branch that a cond's word chooses has the depth of what the switch gives
+pub enter-depth : (g : Graph) → IsAccepted g → (n : ℕ) → n < length g.codes → (x d k a y p m q w : ℕ) → kind_at (code_of g n) y ≡ Switch d k a
+    → kind_at (code_of g n) d ≡ Cond p m q → kind_at (code_of g n) x ≡ Enter k → block_at (code_of g n) x ≡ chosen_branch (code_of g n) d w
+    → depth_at (code_of g n) x ≡ depth_at (code_of g n) a
+enter-depth g acc n l x d k a y p m q w s c e b = go w (b ∙ ap (λ z. branch_of_kind z w) c)
+  where
+    later : (0 < m) × (0 < q)
+    later = branches-later (length g.codes) (code_of g n) (acc.written n (below-test n (length g.codes) l)) d p m q c
+
+    depths : (enters_depth (code_of g n) k (depth_at (code_of g n) a) m ≡ true) × (enters_depth (code_of g n) k (depth_at (code_of g n) a) q ≡ true)
+    depths = switch-depth g acc n l y d k a p m q s c
+
+    in-block : (b : ℕ) → 0 < b → block_at (code_of g n) x ≡ b → enters_depth (code_of g n) k (depth_at (code_of g n) a) b ≡ true
+        → depth_at (code_of g n) x ≡ depth_at (code_of g n) a
+    in-block b pos same h = enters-depth-at (code_of g n) k (depth_at (code_of g n) a) b x
+        (block-there (code_of g n) x (subst (λ z. 0 < z) (sym same) pos)) e same h
+
+    go : (v : ℕ) → block_at (code_of g n) x ≡ branch_of_kind (Cond p m q) v → depth_at (code_of g n) x ≡ depth_at (code_of g n) a
+    go zero r = in-block q later.1 r depths.1
+    go (suc v) r = in-block m later.0 r depths.0

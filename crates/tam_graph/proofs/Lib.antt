@@ -1,0 +1,14 @@
+pub mod Reaching
+pub mod Walks
+pub mod Visited
+pub mod Merging
+pub mod Least
+pub mod Quotients
+pub mod Next
+pub mod Uncycled
+pub mod AcceptedFacts
+pub mod Depths
+pub mod Branches
+pub mod Lines
+pub mod BranchBlocks
+pub mod Padded

@@ -1,0 +1,58 @@
+-- Which bytes read as a graph: their lines with tokens are the graph's lines, token by token.
+use Rattle.std.specs.Prelude.{ℕ, ◌≡◌, ◌<◌, ◌≤◌, Bool, true, false, ◌&&◌, List, [], ◌∷◌, map, Option, Some, None, is_none, length}
+use Rattle.tam_word.specs.Lists.{all_of, all_differ, same_bytes}
+use Rattle.tam_graph.specs.declared.node.Node.{Node}
+use Rattle.tam_graph.specs.Graphs.{Code, Graph, code_of, main_among}
+use Rattle.tam_graph.specs.Names.{is_name}
+use Rattle.tam_graph.specs.Lines.{token_lines, are_good_bytes}
+use Rattle.tam_graph.specs.Written.{IsWritten}
+use Rattle.tam_graph.specs.Texts.{Token, Bytes, Number, Line, spells, is_named, or_bytes, graph_lines}
+
+-- ---- reading
+
+-- the bytes are a spelling of the token
+abbrev pub is_token : List ℕ → Token → Bool
+is_token bs (Bytes cs) = same_bytes bs cs
+is_token bs (Number w) = spells bs w
+
+-- the words are spellings of the line's tokens
+abbrev pub same_line : List (List ℕ) → Line → Bool
+same_line [] [] = true
+same_line (w ∷ ws) (t ∷ ts) = is_token w t && same_line ws ts
+same_line _ _ = false
+
+-- and so line by line
+abbrev pub same_lines : List (List (List ℕ)) → List Line → Bool
+same_lines [] [] = true
+same_lines (w ∷ ws) (l ∷ ls) = same_line w l && same_lines ws ls
+same_lines _ _ = false
+
+-- the names that are there
+abbrev pub given_names : List (Option (List ℕ)) → List (List ℕ)
+given_names [] = []
+given_names (None ∷ ns) = given_names ns
+given_names (Some n ∷ ns) = n ∷ given_names ns
+
+-- the names of a code's nodes, in file order
+abbrev pub names_in : Code → List (List ℕ)
+names_in c = given_names (map (λ n. n.name) c.nodes)
+
+-- a name stands where the node's line begins with one, and nothing elsewhere
+abbrev pub is_named_right : Node → Bool
+is_named_right n = elim (is_named n.kind) [ true ↦ is_name (or_bytes n.name) | false ↦ is_none n.name ]
+
+-- the graph is that of some text: its codes are written, and its names are names, where they belong, and differ
+pub record IsOfText (g : Graph) : Type 0 where
+  pub written : (n : ℕ) → n < length g.codes → IsWritten (length g.codes) (code_of g n)
+  pub few_codes : length g.codes ≤ 256
+  pub codes_named : all_of (λ c. is_name c.name) g.codes ≡ true
+  pub codes_differ : all_differ same_bytes (map (λ c. c.name) g.codes) ≡ true
+  pub nodes_named : all_of (λ c. all_of is_named_right c.nodes) g.codes ≡ true
+  pub nodes_differ : all_of (λ c. all_differ same_bytes (names_in c)) g.codes ≡ true
+  pub main : g.main ≡ main_among g.codes
+
+-- the bytes read as the graph
+pub record Reads (bytes : List ℕ) (g : Graph) : Type 0 where
+  pub good : are_good_bytes bytes ≡ true
+  pub text : IsOfText g
+  pub lines : same_lines (token_lines bytes) (graph_lines g) ≡ true

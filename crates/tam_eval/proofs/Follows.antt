@@ -6,7 +6,7 @@ use Rattle.tam_word.proofs.Members.{In, Distinct, all-in, in-all}
 use Rattle.tam_graph.specs.Graphs.{Graph, kind_at, block_at, operands_of, fires, has_value}
 use Rattle.tam_split.proofs.Firers.{Firer, is_inner}
 use Rattle.tam_msgs.specs.declared.message.Message.{Message}
-use Rattle.tam_msgs.specs.Runs.{Item}
+use Rattle.tam_msgs.specs.declared.item.Item.{Item}
 use Rattle.tam_istr.specs.Cells.{Empty, Reader}
 use Rattle.tam_flow.specs.Worlds.{World, its_code, has_word, has_entered}
 use Rattle.tam_flow.specs.Journals.{State, has_run, on_their_way}

@@ -6,7 +6,7 @@ use Rattle.tam_word.proofs.Members.{In, in-flat_map, in-map}
 use Rattle.tam_graph.specs.Graphs.{Graph, code_of, node_where, is_param}
 use Rattle.tam_msgs.specs.declared.message.Message.{Message}
 use Rattle.tam_msgs.specs.declared.message.Message.TheVariants.{Word as Carry}
-use Rattle.tam_msgs.specs.Runs.{Item}
+use Rattle.tam_msgs.specs.declared.item.Item.{Item}
 use Rattle.tam_istr.specs.Cells.{Empty, Reader}
 use Rattle.tam_flow.specs.Worlds.{has_word, opening, argument_message}
 use Rattle.tam_flow.specs.Journals.{State, initial, has_run, on_their_way}

@@ -9,7 +9,11 @@ use Rattle.tam_split.specs.GraphPartitions.{singles}
 use Rattle.tam_msgs.specs.declared.message.Message.{Message}
 use Rattle.tam_msgs.specs.declared.message.Message.TheVariants.{Word as Carry, Frame as Begin, Cells as Make, Fetch as Ask_cell, Store as Put_cell}
 use Rattle.tam_msgs.specs.declared.limits.Limits.{Limits}
-use Rattle.tam_msgs.specs.Runs.{Item, Ready, Place, Choice, Choose_quiet, Choose_run, Choose_delivery, choice, run_from, Outcome, Next, Ended}
+use Rattle.tam_msgs.specs.Runs.{choice, run_from, Outcome, Next, Ended}
+use Rattle.tam_msgs.specs.declared.choice.Choice.{Choice}
+use Rattle.tam_msgs.specs.declared.choice.Choice.TheVariants.{Quiet as Choose_quiet, Run as Choose_run, Deliver as Choose_delivery}
+use Rattle.tam_msgs.specs.declared.item.Item.{Item}
+use Rattle.tam_msgs.specs.declared.item.Item.TheVariants.{Ready, Place}
 use Rattle.tam_msgs.specs.Runs.{End, Quiet, Double_write, Out_of_range, Frames_full, Cells_full, Budget_spent, Wild, Trap}
 use Rattle.tam_msgs.specs.Messages.{AreLimits}
 use Rattle.tam_istr.specs.Cells.{Arrays, cells_used}

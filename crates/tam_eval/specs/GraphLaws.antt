@@ -5,7 +5,8 @@ use Rattle.tam_graph.specs.Graphs.{Graph, AreArguments}
 use Rattle.tam_graph.specs.Accepted.{IsAccepted}
 use Rattle.tam_split.specs.GraphPartitions.{singles}
 use Rattle.tam_msgs.specs.Messages.{AreLimits}
-use Rattle.tam_msgs.specs.Runs.{Item, End, Quiet, run_from}
+use Rattle.tam_msgs.specs.Runs.{End, Quiet, run_from}
+use Rattle.tam_msgs.specs.declared.item.Item.{Item}
 use Rattle.tam_flow.specs.Journals.{IsQuiet}
 use Rattle.tam_flow.specs.RunJournals.{HasJournal}
 use Rattle.tam_eval.specs.GraphRuns.{GraphState, graph_step, graph_opening}

@@ -7,7 +7,10 @@ use Rattle.tam_msgs.specs.declared.limits.Limits.{Limits}
 use Rattle.tam_graph.specs.Graphs.{Graph, code_of, kind_at, block_at, operands_of, fires, node_numbers, results_of}
 use Rattle.tam_istr.specs.Cells.{cells_used}
 use Rattle.tam_flow.specs.Worlds.{World, Effect, Delivery, Went, Printed, Faulted, Fault, Second_store, Outside_cells, its_code, has_word, has_entered, fired, delivered, opening, argument_message}
-use Rattle.tam_msgs.specs.Runs.{Item, Choice, Choose_quiet, Choose_run, Choose_delivery, choice, End, Quiet, Double_write, Out_of_range, Frames_full, Cells_full, Budget_spent, Outcome, Next, Ended, run_from, Report, text_of}
+use Rattle.tam_msgs.specs.Runs.{choice, End, Quiet, Double_write, Out_of_range, Frames_full, Cells_full, Budget_spent, Outcome, Next, Ended, run_from, Report, text_of}
+use Rattle.tam_msgs.specs.declared.choice.Choice.{Choice}
+use Rattle.tam_msgs.specs.declared.choice.Choice.TheVariants.{Quiet as Choose_quiet, Run as Choose_run, Deliver as Choose_delivery}
+use Rattle.tam_msgs.specs.declared.item.Item.{Item}
 
 -- the state of a run
 pub record GraphState : Type 0 where

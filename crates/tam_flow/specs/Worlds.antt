@@ -1,6 +1,6 @@
 -- The activations of a graph at run time, where activations and arrays are numbers, and what a firing and a delivery do.
-use Rattle.std.specs.Prelude.{ℕ, Bool, true, false, ◌==◌, List, [], ◌∷◌, ◌++◌, map, flat_map, Option, Some, None, slice_get, length}
-use Rattle.tam_word.specs.Lists.{any_of, has, changed_at}
+use Rattle.std.specs.Prelude.{ℕ, Bool, true, false, ◌==◌, List, [], ◌∷◌, ◌++◌, map, flat_map, Option, Some, None, slice_get, slice_index_or, option_to_list, is_some, length}
+use Rattle.tam_word.specs.Lists.{changed_at, put_at}
 use Rattle.tam_graph.specs.declared.kind.Kind.{Kind}
 use Rattle.tam_graph.specs.declared.kind.Kind.TheVariants.{Const, Op as Operate, Seq, Call, Arg, Give, Alloc, Fetch, Store, Cond, Switch, Leave}
 use Rattle.tam_msgs.specs.declared.message.Message.{Message}
@@ -11,17 +11,17 @@ use Rattle.tam_msgs.specs.Messages.{outside, site, answers}
 use Rattle.tam_istr.specs.Cells.{Arrays, Access, Now, Deferred, Stored, Twice, NotBelow, NoArray, with_array, fetched_from, stored_into}
 
 -- an activation: its code, its caller and the caller's call that began it (for the root the outside and 0),
--- the blocks that were entered, and the words that nodes have got, each with its node
+-- for each block whether it was entered, and for each node the word that it has got; a list that is shorter says no of the rest
 pub record ActivationState : Type 0 where
   pub code : ℕ
   pub caller : ℕ
   pub call : ℕ
-  pub entered : List ℕ
-  pub words : List (ℕ × ℕ)
+  pub entered : List Bool
+  pub words : List (Option ℕ)
 
 -- an activation that begins: its body is entered
 abbrev pub begun : ℕ → ℕ → ℕ → ActivationState
-begun c caller call = record { code = c; caller = caller; call = call; entered = 0 ∷ []; words = [] }
+begun c caller call = record { code = c; caller = caller; call = call; entered = true ∷ []; words = [] }
 
 -- the activations in the order in which they began, the arrays by their numbers, and for each array the activation and the alloc that asked for it
 pub record World : Type 0 where
@@ -42,14 +42,13 @@ activation_at w i = or_activation (slice_get w.activations i)
 abbrev pub its_code : Graph → World → ℕ → Code
 its_code g w i = code_of g (activation_at w i).code
 
--- the word that a node has got, as a list of at most one
-abbrev pub word_among : List (ℕ × ℕ) → ℕ → List ℕ
-word_among [] x = []
-word_among (e ∷ es) x = elim (e.0 == x) [ true ↦ e.1 ∷ [] | false ↦ word_among es x ]
+-- the word that node x of activation i has got, if it has one
+abbrev pub word_at : World → ℕ → ℕ → Option ℕ
+word_at w i x = slice_index_or (activation_at w i).words x None
 
--- the word that node x of activation i has got
+-- the same as a list of at most one
 abbrev pub word_of : World → ℕ → ℕ → List ℕ
-word_of w i x = word_among (activation_at w i).words x
+word_of w i x = option_to_list (word_at w i x)
 
 -- the words of the nodes, as a list of at most one list: one where each has got a word
 abbrev pub words_of : World → ℕ → List ℕ → List (List ℕ)
@@ -58,21 +57,21 @@ words_of w i (x ∷ xs) = flat_map (λ v. map (λ vs. v ∷ vs) (words_of w i xs
 
 -- node x of activation i has got a word
 abbrev pub has_word : World → ℕ → ℕ → Bool
-has_word w i x = any_of (λ e. e.0 == x) (activation_at w i).words
+has_word w i x = is_some (word_at w i x)
 
 -- activation i has entered block b
 abbrev pub has_entered : World → ℕ → ℕ → Bool
-has_entered w i b = has (activation_at w i).entered b
+has_entered w i b = slice_index_or (activation_at w i).entered b false
 
 -- ---- changes
 
 -- an activation whose node x has got a word
 abbrev pub with_word : ℕ → ℕ → ActivationState → ActivationState
-with_word x v a = record a { words = (x, v) ∷ a.words }
+with_word x v a = record a { words = put_at None x (Some v) a.words }
 
 -- an activation that has entered block b
 abbrev pub with_block : ℕ → ActivationState → ActivationState
-with_block b a = record a { entered = b ∷ a.entered }
+with_block b a = record a { entered = put_at false b true a.entered }
 
 -- node x of activation i gets a word
 abbrev pub got : World → ℕ → ℕ → ℕ → World

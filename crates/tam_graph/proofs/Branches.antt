@@ -9,53 +9,12 @@ use Rattle.tam_word.proofs.Members.{In, left-in, right-in, in-append, flat_map-i
 use Rattle.tam_graph.specs.declared.kind.Kind.{Kind}
 use Rattle.tam_graph.specs.declared.kind.Kind.TheVariants.{Cond, Switch, Enter}
 use Rattle.tam_graph.specs.Graphs.{Code, Graph, code_of, or_block, kind_at, block_at, depth_at, nodes_in, blocks_of, chosen_branch, branch_of_kind}
-use Rattle.tam_graph.specs.Written.{in_branches, in_file_order, in_opening_order, IsWritten}
+use Rattle.tam_graph.specs.Written.{in_file_order, in_opening_order, IsWritten}
+use Rattle.tam_graph.proofs.Visits.{node-visited, both-opened}
 use Rattle.tam_graph.specs.Accepted.{IsAccepted, enters_depth}
 use Rattle.tam_graph.proofs.AcceptedFacts.{node-there}
 use Rattle.tam_graph.proofs.Depths.{switch-depth, enters-depth-at}
 use Rattle.std.proofs.lemmas.Option.{slice_get_within}
-
--- what stands in a branch's list stands in what the same branch has for another
-in-branches-more : {X Z : Type 0} (f : ℕ → List X) (h : ℕ → List Z) (k : Kind) (x : X) (z : Z) → ((d : ℕ) → In x (f d) → In z (h d))
-    → In x (in_branches f k) → In z (in_branches h k)
-in-branches-more f h (Cond p y n) x z more a =
-    ⊎_elim (λ l. left-in z (h y) (h n) (more y l)) (λ r. right-in z (h y) (h n) (more n r)) (in-append x (f y) (f n) a)
-in-branches-more f h k x z more a = absurd a
-
--- where a cond comes in file order, its branches come in opening order
-opened : (fuel : ℕ) (c : Code) (b x p y n : ℕ) → kind_at c x ≡ Cond p y n → In x (in_file_order fuel c b)
-    → In (y, Some x) (in_opening_order fuel c b) × In (n, Some x) (in_opening_order fuel c b)
-opened zero c b x p y n e a = absurd a
-opened (suc fuel) c b x p y n e a = found (in-flat_map (λ x. x ∷ in_branches (in_file_order fuel c) (kind_at c x)) x (nodes_in c b) a)
-    (λ d. opened fuel c d x p y n e)
-  where
-    at : ℕ → List (ℕ × Option ℕ)
-    at z = in_branches (λ d. (d, Some z) ∷ in_opening_order fuel c d) (kind_at c z)
-
-    found : (z : ℕ) × In z (nodes_in c b) × In x (z ∷ in_branches (in_file_order fuel c) (kind_at c z))
-        → ((d : ℕ) → In x (in_file_order fuel c d) → In (y, Some x) (in_opening_order fuel c d) × In (n, Some x) (in_opening_order fuel c d))
-        → In (y, Some x) (in_opening_order (suc fuel) c b) × In (n, Some x) (in_opening_order (suc fuel) c b)
-    found (z, m, inl same) rest = (into (y, Some x) first, into (n, Some x) second)
-      where
-        cond-here : kind_at c z ≡ Cond p y n
-        cond-here = rw same e
-
-        first : In (y, Some x) (in_branches (λ d. (d, Some z) ∷ in_opening_order fuel c d) (kind_at c z))
-        first = rw (cond-here, same) (inl refl)
-
-        second : In (n, Some x) (in_branches (λ d. (d, Some z) ∷ in_opening_order fuel c d) (kind_at c z))
-        second = rw (cond-here, same) (right-in (n, Some x) ((y, Some x) ∷ in_opening_order fuel c y) ((n, Some x) ∷ in_opening_order fuel c n) (inl refl))
-
-        into : (o : ℕ × Option ℕ) → In o (in_branches (λ d. (d, Some z) ∷ in_opening_order fuel c d) (kind_at c z))
-            → In o (in_opening_order (suc fuel) c b)
-        into o t = flat_map-in (λ (x : ℕ). in_branches (λ d. (d, Some x) ∷ in_opening_order fuel c d) (kind_at c x)) z o (nodes_in c b) m t
-    found (z, m, inr deep) rest = (into (y, Some x) (λ d t. (rest d t).0), into (n, Some x) (λ d t. (rest d t).1))
-      where
-        into : (o : ℕ × Option ℕ) → ((d : ℕ) → In x (in_file_order fuel c d) → In o (in_opening_order fuel c d))
-            → In o (in_opening_order (suc fuel) c b)
-        into o more =
-            flat_map-in (λ (x : ℕ). in_branches (λ d. (d, Some x) ∷ in_opening_order fuel c d) (kind_at c x)) z o (nodes_in c b) m
-            (in-branches-more (in_file_order fuel c) (λ d. (d, Some z) ∷ in_opening_order fuel c d) (kind_at c z) x o (λ d t. inr (more d t)) deep)
 
 -- an element of a list with one more
 get-last : (xs : List ℕ) (y k m : ℕ) → slice_get (xs ++ y ∷ []) k ≡ Some m → (slice_get xs k ≡ Some m) ⊎ ((k ≡ length xs) × (m ≡ y))
@@ -104,7 +63,7 @@ module _ (codes : ℕ) (c : Code) (written : IsWritten codes c) where
   branches-later x p y n e =
       let there : In x (in_file_order (length c.owners) c 0) = subst (In x) (sym written.nodes_in_order)
       (below-in x (length c.nodes) (node-there c x (λ z. cc))) in
-      let o = opened (length c.owners) c 0 x p y n e there in
+      let o = both-opened (length c.owners) c 0 x p y n e (node-visited (length c.owners) c 0 x there) in
       (opened-later y (Some x) o.0, opened-later n (Some x) o.1)
 
 -- a node of a block that isn't the body is there

@@ -1,6 +1,7 @@
 pub mod Reaching
 pub mod Walks
 pub mod Visited
+pub mod Visits
 pub mod Merging
 pub mod Least
 pub mod Quotients

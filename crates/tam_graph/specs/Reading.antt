@@ -41,14 +41,18 @@ names_in c = given_names (map (λ n. n.name) c.nodes)
 abbrev pub is_named_right : Node → Bool
 is_named_right n = elim (is_named n.kind) [ true ↦ is_name (or_bytes n.name) | false ↦ is_none n.name ]
 
--- the graph is that of some text: its codes are written, and its names are names, where they belong, and differ
+-- the code stands in some text with so many codes: it is written, and its names are names, where they belong, and differ
+pub record IsCodeOfText (codes : ℕ) (c : Code) : Type 0 where
+  pub written : IsWritten codes c
+  pub named : is_name c.name ≡ true
+  pub nodes_named : all_of is_named_right c.nodes ≡ true
+  pub nodes_differ : all_differ same_bytes (names_in c) ≡ true
+
+-- the graph is that of some text
 pub record IsOfText (g : Graph) : Type 0 where
-  pub written : (n : ℕ) → n < length g.codes → IsWritten (length g.codes) (code_of g n)
+  pub each_code : (n : ℕ) → n < length g.codes → IsCodeOfText (length g.codes) (code_of g n)
   pub few_codes : length g.codes ≤ 256
-  pub codes_named : all_of (λ c. is_name c.name) g.codes ≡ true
   pub codes_differ : all_differ same_bytes (map (λ c. c.name) g.codes) ≡ true
-  pub nodes_named : all_of (λ c. all_of is_named_right c.nodes) g.codes ≡ true
-  pub nodes_differ : all_of (λ c. all_differ same_bytes (names_in c)) g.codes ≡ true
   pub main : g.main ≡ main_among g.codes
 
 -- the bytes read as the graph

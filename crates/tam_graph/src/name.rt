@@ -75,7 +75,14 @@ fn continues_name(byte: u8) -> bool
 fn continue_name(bytes: &[u8]) -> bool
     ensures { result ≡ all_of continues_name bytes.now }
 {
-    bytes.iter().all(|byte| continues_name(*byte))
+    let mut rest = bytes;
+    while let [byte, after @ ..] = rest {
+        if !continues_name(*byte) {
+            return false;
+        }
+        rest = after;
+    }
+    true
 }
 
 fn is_name(bytes: &[u8]) -> bool

@@ -25,7 +25,8 @@ use Rattle.tam_eval.proofs.Caught.{GoesOn, AllReached, reached-placed, goes-then
 use Rattle.tam_eval.proofs.Firing.{GoesTo, same-state, longer}
 use Rattle.tam_eval.proofs.Answers.{FitsAfter, delivery-fits, answered-fits}
 use Rattle.tam_eval.proofs.Sizes.{Few}
-use Rattle.tam_eval.proofs.Gives.{some-word, got-has}
+use Rattle.tam_flow.proofs.ActivationLists.{has-word}
+use Rattle.tam_eval.proofs.Gives.{got-has}
 use Rattle.tam_eval.proofs.Charges.{Charge, HasReceived, is_asking, asks-none, charge-word, charge-ask}
 
 -- what is left of a list was in it
@@ -187,7 +188,7 @@ module _ (g : Graph) (args : List ℕ) (s : State) (all : AllReached g args s) (
     word-fresh : (f x v : ℕ) → m ≡ Carry f x v → (f ≡ outside → ⊥) → HasReceived g s f x → ⊥
     word-fresh f x v p n h =
         let q = (reached-now g args s all now).once.not_yet found.number f x v n (was-sent ∙ ap Some p) found.not_yet in
-        let r = some-word (activation_at s.world f).words x h.word in
+        let r = has-word (activation_at s.world f).words x h.word in
         let z : [] ≡ r.0 ∷ [] = sym q ∙ r.1 in absurd cc
 
     -- its charge, in a state with this world

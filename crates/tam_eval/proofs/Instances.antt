@@ -20,7 +20,7 @@ use Rattle.tam_flow.specs.Told.{Tells, path_of, meant_at, HaveWords, outlet_plac
 use Rattle.tam_flow.specs.RunJournals.{IsCharged}
 use Rattle.tam_flow.specs.Reached.{IsThere, IsReached, HaveSome}
 use Rattle.tam_eval.proofs.Steps.{distinct-append}
-use Rattle.tam_eval.proofs.Gives.{some-word}
+use Rattle.tam_flow.proofs.ActivationLists.{has-word}
 use Rattle.tam_eval.proofs.Charges.{HasFired, HasReceived, Charged}
 
 -- ---- kinds and vertices
@@ -119,7 +119,7 @@ module _ (g : Graph) (args : List ℕ) (s : State) (reached : IsReached g (singl
   -- a node with a word has a value told
   told-value : (i x : ℕ) → IsThere s.world i → has_word s.world i x ≡ true → IsActive (Tells g (singles g) s) (Of_giver (path_of s.world i) x)
   told-value i x l h =
-      let r = some-word (activation_at s.world i).words x h in
+      let r = has-word (activation_at s.world i).words x h in
       (meant_at s.world (kind_at (its_code g s.world i) x) (depth_at (its_code g s.world i) x) r.0, (i, (l, refl), (r.0, r.1, refl)))
 
   -- words of operands mean values

@@ -1,6 +1,6 @@
 -- What a firing sends is for inlets, or asks for one.
 use Rattle.std.proofs.Common.{◌≡◌, ℕ, zero, suc, ◌<◌, Bool, true, false, ◌&&◌, List, [], ◌∷◌, refl, sym, subst, ap, inl, inr, ◌⊎◌, ◌∙◌, true≢false}
-use Rattle.std.proofs.Common.{◌==◌, length, map, arith, nat_lt}
+use Rattle.std.proofs.Common.{◌==◌, length, map, arith, nat_lt, Option, Some, None, slice_index_or, option_to_list}
 use Rattle.tam_word.proofs.Tests.{eq-number, both-true}
 use Rattle.tam_word.proofs.Members.{In, all-in, in-flat_map, in-map}
 use Rattle.tam_graph.specs.declared.kind.Kind.{Kind}
@@ -14,26 +14,23 @@ use Rattle.tam_split.proofs.Firers.{kind-there}
 use Rattle.tam_msgs.specs.declared.message.Message.{Message}
 use Rattle.tam_msgs.specs.declared.message.Message.TheVariants.{Word as Carry}
 use Rattle.tam_msgs.specs.Messages.{outside}
-use Rattle.tam_flow.specs.Worlds.{World, activation_at, its_code, word_among, word_of, words_of, result_message, firing_of, fired_with, fired}
+use Rattle.tam_flow.specs.Worlds.{World, activation_at, its_code, word_of, words_of, result_message, firing_of, fired_with, fired}
 use Rattle.tam_flow.specs.Journals.{State}
 use Rattle.tam_flow.specs.Reached.{IsThere, IsReached}
+use Rattle.tam_flow.proofs.ActivationLists.{word_among}
 use Rattle.tam_flow.proofs.SingleRuns.{below-test}
 use Rattle.tam_flow.proofs.Moves.{Fits, param-where, ret-where}
 
 -- ---- words of operands
 
 -- a node has one word at most
-one-word : (es : List (ℕ × ℕ)) (x v : ℕ) → In v (word_among es x) → word_among es x ≡ v ∷ []
-one-word [] x v h = absurd h
-one-word (e ∷ es) x v h = go (e.0 == x) refl (one-word es x v)
+one-word : (words : List (Option ℕ)) (x v : ℕ) → In v (word_among words x) → word_among words x ≡ v ∷ []
+one-word words x v h = go (slice_index_or words x None) h
   where
-    one : In v (e.1 ∷ []) → e.1 ∷ [] ≡ v ∷ []
-    one (inl q) = ap (λ y. y ∷ []) q
-    one (inr q) = absurd q
-
-    go : (t : Bool) → (e.0 == x) ≡ t → (In v (word_among es x) → word_among es x ≡ v ∷ []) → word_among (e ∷ es) x ≡ v ∷ []
-    go true p f = rw (word_among, p) (one (rw (word_among, p) at h))
-    go false p f = rw (word_among, p) (f (rw (word_among, p) at h))
+    go : (o : Option ℕ) → In v (option_to_list o) → option_to_list o ≡ v ∷ []
+    go None k = absurd k
+    go (Some u) (inl e) = ap (λ y. y ∷ []) e
+    go (Some u) (inr k) = absurd k
 
 -- words of nodes are words of each
 pub words-in : (w : World) (i x : ℕ) (xs vs : List ℕ) → In vs (words_of w i (x ∷ xs))

@@ -76,9 +76,13 @@ word-cases x v words y u h = ⊎_elim (λ e. inl (e, same e)) (λ k. inr (ap opt
     same : x ≡ y → v ≡ u
     same e = head (sym (word-here x v words) ∙ ap (word_among (put_at None x (Some v) words)) e ∙ h)
 
--- so a node that had a word has one
+-- so its node has one
+pub has-here : (x v : ℕ) (words : List (Option ℕ)) → has_among (put_at None x (Some v) words) x ≡ true
+has-here x v words = ap is_some (put_at-here None x (Some v) words)
+
+-- a node that had a word has one
 pub has-stays : (x v : ℕ) (words : List (Option ℕ)) (y : ℕ) → has_among words y ≡ true → has_among (put_at None x (Some v) words) y ≡ true
-has-stays x v words y h = ⊎_elim (λ e. ap (has_among (put_at None x (Some v) words)) (sym e) ∙ ap is_some (put_at-here None x (Some v) words))
+has-stays x v words y h = ⊎_elim (λ e. ap (has_among (put_at None x (Some v) words)) (sym e) ∙ has-here x v words)
     (λ k. ap is_some k.1 ∙ h) (put_at-cases None x (Some v) words y)
 
 -- and no other node has one anew

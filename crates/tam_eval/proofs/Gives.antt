@@ -1,6 +1,6 @@
 -- A const, an operator or a seq that fires gives its node a word; no firing changes arrays.
-use Rattle.std.proofs.Common.{◌≡◌, ℕ, zero, suc, ◌<◌, Bool, true, false, List, [], ◌∷◌, ◌++◌, refl, sym, subst, ap, inl, inr, ◌∙◌, true≢false}
-use Rattle.std.proofs.Common.{◌==◌, length, map, flat_map, slice_get, Some, arith}
+use Rattle.std.proofs.Common.{◌≡◌, ℕ, zero, suc, ◌<◌, true, List, [], ◌∷◌, ◌++◌, refl, sym, subst, ap, inl, inr, ◌∙◌, true≢false}
+use Rattle.std.proofs.Common.{length, map, flat_map, slice_get, Some, arith}
 use Rattle.tam_word.specs.Lists.{changed_at}
 use Rattle.tam_word.proofs.Members.{In}
 use Rattle.tam_graph.specs.declared.kind.Kind.{Kind}

@@ -97,11 +97,11 @@ module _ (g : Graph) (acc : IsAccepted g) (args : List ℕ) (s : State) (reached
       let u = (reached.words.suit i f p (second-word s.world i a f v p h)).by_call c.0 c.1 in
       let d = reached.activations.calls p u.0 u.1 in
       let q : kind_at (its_code g s.world i) f ≡ Call (activation_at s.world p).code =
-          subst (λ y. kind_at (its_code g s.world y) f ≡ Call (activation_at s.world p).code) u.2
-          (subst (λ y. kind_at (its_code g s.world (activation_at s.world p).caller) y ≡ Call (activation_at s.world p).code) u.3 d) in
+      subst (λ y. kind_at (its_code g s.world y) f ≡ Call (activation_at s.world p).code) u.2
+      (subst (λ y. kind_at (its_code g s.world (activation_at s.world p).caller) y ≡ Call (activation_at s.world p).code) u.3 d) in
       let z : code_of g (callee_of (its_code g s.world i) f) ≡ its_code g s.world p = ap (λ y. code_of g (callee_of_kind y)) q in
       subst (Fits g s.world) r.2 (inr
-          (u.1, subst (λ y. is_inlet (kind_at y r.0) ≡ true) z (param-where (code_of g (callee_of (its_code g s.world i) f)) k r.0 r.1)))
+      (u.1, subst (λ y. is_inlet (kind_at y r.0) ≡ true) z (param-where (code_of g (callee_of (its_code g s.world i) f)) k r.0 r.1)))
 
   -- a result is for a ret of the caller, or goes outside
   result-fits : (k v : ℕ) (m : Message) → In m (result_message g s.world i k v) → Fits g s.world m
@@ -121,7 +121,7 @@ module _ (g : Graph) (acc : IsAccepted g) (args : List ℕ) (s : State) (reached
       back n (inl e) p = absurd (true≢false (sym (eq-number (activation_at s.world i).caller outside e) ∙ p))
       back n (inr l) p =
           let r = in-map (λ (y : ℕ). Carry (activation_at s.world i).caller y v) m
-              (node_where (its_code g s.world (activation_at s.world i).caller) (is_ret (activation_at s.world i).call k)) n in
+          (node_where (its_code g s.world (activation_at s.world i).caller) (is_ret (activation_at s.world i).call k)) n in
           let b : (activation_at s.world i).caller < i = reached.activations.callers i l there in
           let t : i < length s.world.activations = there in
           let d : (activation_at s.world i).caller < length s.world.activations = omega arith in

@@ -1,5 +1,5 @@
 -- What a state at rest tells of each fact that holds, and the lemmas by which it does: numbers and paths, words and meanings, outlets that ran.
-use Rattle.std.proofs.Common.{◌≡◌, ℕ, zero, suc, ◌<◌, List, [], ◌∷◌, Bool, true, false, refl, sym, subst, ap, inl, inr, ◌∙◌, true≢false, length, arith, ◌==◌}
+use Rattle.std.proofs.Common.{◌≡◌, ℕ, zero, suc, ◌<◌, List, [], ◌∷◌, true, false, refl, sym, subst, ap, inl, inr, ◌∙◌, true≢false, length, arith, ◌==◌}
 use Rattle.std.specs.List.{AllByRecursion}
 use Rattle.tam_word.proofs.Tests.{self-eq, true-both}
 use Rattle.tam_word.proofs.Members.{In, in-any, filter-in, below-in}

@@ -1,5 +1,5 @@
 -- A firing of a node whose block is entered and whose operands have words leaves a world that has its reasons, and sends messages that have theirs.
-use Rattle.std.proofs.Common.{◌≡◌, ℕ, zero, suc, ◌<◌, Bool, true, false, ◌==◌, ◌&&◌, ◌||◌, not, List, [], ◌∷◌, ◌++◌, map, flat_map, Option, Some, None, length, slice_get, nat_lt, refl, sym, ap, ◌∙◌, arith, tests, subst, inl, inr, ◌⊎◌, ⊎_elim, true≢false}
+use Rattle.std.proofs.Common.{◌≡◌, ℕ, zero, suc, ◌<◌, Bool, true, false, ◌==◌, ◌&&◌, ◌||◌, not, List, [], ◌∷◌, ◌++◌, map, flat_map, Option, Some, None, length, slice_get, nat_lt, refl, sym, ap, ◌∙◌, arith, tests, subst, inl, inr, ⊎_elim, true≢false}
 use Rattle.std.specs.List.{AllByRecursion}
 use Rattle.tam_word.specs.Words.{meaning}
 use Rattle.tam_word.specs.declared.op.Op.{Op}

@@ -140,11 +140,11 @@ module _ (g : Graph) (Just : ℕ → ℕ → Type 0) (w : World) where
   -- a node of an activation gets a word besides
   pub moves-got : (v : World) (i x u : ℕ) → IsNew i x → Moves g Just w v → Moves g Just w (got v i x u)
   moves-got v i x u n m = moves-changed v i (with_word x u) (record {
-        code = λ a. refl;
-        word = λ a y h. has-stays x u a.words y h;
-        block = λ a d h. h;
-        fresh = λ a y h. elim (has-cases x u a.words y h) [ inl e ↦ inr (subst (IsNew i) e n) | inr r ↦ inl r ];
-      }) m
+    code = λ a. refl;
+    word = λ a y h. has-stays x u a.words y h;
+    block = λ a d h. h;
+    fresh = λ a y h. elim (has-cases x u a.words y h) [ inl e ↦ inr (subst (IsNew i) e n) | inr r ↦ inl r ];
+  }) m
 
   -- several nodes get one
   pub moves-all_got : (v : World) (i : ℕ) (xs : List ℕ) (u : ℕ) → ((x : ℕ) → In x xs → IsNew i x) → Moves g Just w v → Moves g Just w (all_got v i xs u)
@@ -154,11 +154,11 @@ module _ (g : Graph) (Just : ℕ → ℕ → Type 0) (w : World) where
   -- a block is entered besides
   pub moves-entered : (v : World) (i b : ℕ) → Moves g Just w v → Moves g Just w (entered v i b)
   moves-entered v i b m = moves-changed v i (with_block b) (record {
-        code = λ a. refl;
-        word = λ a y h. h;
-        block = λ a d h. entered-stays b a.entered d h;
-        fresh = λ a y h. inl h;
-      }) m
+    code = λ a. refl;
+    word = λ a y h. h;
+    block = λ a d h. entered-stays b a.entered d h;
+    fresh = λ a y h. inl h;
+  }) m
 
   -- an activation begins
   pub moves-begun : (c f x : ℕ) → Moves g Just w (record w { activations = w.activations ++ begun c f x ∷ [] })

@@ -1,20 +1,16 @@
 -- A code of an accepted graph has at most 1024 nodes, each in one of its blocks.
-use Rattle.std.proofs.Common.{◌≡◌, ℕ, zero, suc, ◌+◌, ◌*◌, ◌/◌, ◌%◌, ◌<◌, ◌≤◌, Bool, true, false, ◌==◌, List, [], ◌∷◌, filter, sum_by, Option, Some, length, flat_map, nat_lt, refl, sym, ap, ap₂, arith, tests, subst, inl, inr}
+use Rattle.std.proofs.Common.{◌≡◌, ℕ, zero, suc, ◌+◌, ◌*◌, ◌/◌, ◌%◌, ◌<◌, ◌≤◌, Bool, true, false, ◌==◌, List, [], ◌∷◌, filter, sum_by, length, nat_lt, refl, ap, ap₂, arith, tests, subst, inr}
 use Rattle.std.specs.List.{AllByRecursion}
 use Rattle.std.proofs.lemmas.List.Sums.{sum_by-cons, sum_by_push}
 use Rattle.std.proofs.lemmas.List.{length-append}
 use Rattle.tam_word.specs.Lists.{below}
-use Rattle.tam_graph.specs.declared.kind.Kind.{Kind}
-use Rattle.tam_graph.specs.declared.kind.Kind.TheVariants.{Cond}
-use Rattle.tam_graph.specs.Graphs.{Code, kind_at, block_at, nodes_in, node_numbers, is_split}
+use Rattle.tam_graph.specs.Graphs.{Code, kind_at, block_at, node_numbers, is_split}
 use Rattle.tam_graph.specs.Written.{IsWritten, vertices_at, in_file_order}
 use Rattle.tam_msgs.specs.Messages.{site, site_pair}
 use Rattle.tam_word.proofs.Each.{all-more, in-each}
-use Rattle.tam_flow.proofs.Nodes.{block-each}
 use Rattle.tam_graph.proofs.Visits.{blocks-below, node-visited}
 use Rattle.tam_graph.proofs.BranchBlocks.{opened-below, has-body}
-use Rattle.tam_word.proofs.Tests.{number-eq, test-below, below-test}
-use Rattle.tam_word.proofs.Members.{In, left-in, right-in}
+use Rattle.tam_word.proofs.Tests.{test-below, below-test}
 
 -- a node has a vertex at least
 one-vertex : (c : Code) (x : ℕ) → 0 < vertices_at c x

@@ -1,7 +1,7 @@
 -- Each state that a legal journal leaves has its reasons.
 use Rattle.std.proofs.Common.{◌≡◌, ℕ, zero, suc, ◌^◌, ◌+◌, ◌<◌, Bool, true, false, ◌==◌, ◌&&◌, not, List, [], ◌∷◌, ◌++◌, zip, Option, Some, None, is_none, length, slice_get, nat_lt, refl, sym, ap, ◌∙◌, arith, subst, inr, true≢false}
 use Rattle.std.specs.List.{AllByRecursion}
-use Rattle.tam_word.specs.Lists.{any_of, has, below}
+use Rattle.tam_word.specs.Lists.{any_of, below}
 use Rattle.tam_graph.specs.declared.kind.Kind.TheVariants.{Param}
 use Rattle.tam_graph.specs.Graphs.{Graph, code_of, kind_at, depth_at, node_where, is_param}
 use Rattle.tam_graph.specs.Accepted.{IsAccepted}

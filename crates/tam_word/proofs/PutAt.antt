@@ -1,5 +1,5 @@
 -- What stands at the places of a list once an element is put at one of them.
-use Rattle.std.proofs.Common.{◌≡◌, ◌≢◌, ℕ, zero, suc, Bool, true, false, ◌==◌, List, [], ◌∷◌, slice_index_or, refl, subst, arith, inl, inr, ◌⊎◌, ⊎_elim}
+use Rattle.std.proofs.Common.{◌≡◌, ◌≢◌, ℕ, zero, suc, true, false, ◌==◌, List, [], ◌∷◌, slice_index_or, refl, subst, arith, inl, inr, ◌⊎◌, ⊎_elim}
 use Rattle.tam_word.specs.Lists.{put_at}
 use Rattle.tam_word.proofs.Tests.{eq-number, differs-number}
 

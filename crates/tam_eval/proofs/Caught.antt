@@ -46,7 +46,7 @@ goes-then g s t u (e ∷ es) fs a b = go (may_follow g (singles g) s e) refl a.l
   where
     go : (x : Bool) → may_follow g (singles g) s e ≡ x → is_legal_from g (singles g) s (e ∷ es) ≡ true
         → (GoesOn g (after_event g (singles g) s e) t es → GoesOn g t u fs → GoesOn g (after_event g (singles g) s e) u (es ++ fs)) → GoesOn g s u
-            (e ∷ (es ++ fs))
+        (e ∷ (es ++ fs))
     go true p l f =
         let r = f (record { legal = rw (is_legal_from, p) at l; ends = a.ends }) b in
         record { legal = rw (is_legal_from, p) r.legal; ends = r.ends }
@@ -115,12 +115,12 @@ module _ (g : Graph) (Just : ℕ → ℕ → Type 0) (s a t : State) (places : L
     inlet_ran = λ i b k x l f h. subst (λ w. (has_entered w i b ≡ true) × (has_word w i x ≡ true)) (sym caught.world)
         (inlet-then i b k x (subst (λ w. InletAt (its_code g w i) b k x) caught.world f) (caught.new i b k h));
     inlet_word = λ i b k x l f e h. all i b k (record {
-        act = subst (λ (w : World). IsThere w i) caught.world l;
-        node = x;
-        inlet = subst (λ w. InletAt (its_code g w i) b k x) caught.world f;
-        entered = subst (λ w. has_entered w i b ≡ true) caught.world e;
-        word = subst (λ w. has_word w i x ≡ true) caught.world h;
-      });
+      act = subst (λ (w : World). IsThere w i) caught.world l;
+      node = x;
+      inlet = subst (λ w. InletAt (its_code g w i) b k x) caught.world f;
+      entered = subst (λ w. has_entered w i b ≡ true) caught.world e;
+      word = subst (λ w. has_word w i x ≡ true) caught.world h;
+    });
   }
 
 -- the same messages are on their way

@@ -126,7 +126,7 @@ module _ (g : Graph) (w : World) (i x : ℕ) where
       go true p = rw (result_message, p) (omega arith)
       go false p = rw (result_message, p) (map-one (λ y. Carry (activation_at w i).caller y v)
           (λ z. is_ret (activation_at w i).call k (kind_at (its_code g w (activation_at w i).caller) z))
-              (node_numbers (its_code g w (activation_at w i).caller)))
+          (node_numbers (its_code g w (activation_at w i).caller)))
 
   -- by what the node does
   firing-one : (k : Kind) (vs : List ℕ) → length (firing_of g w i x k vs).sends ≤ 1

@@ -25,7 +25,8 @@ use Rattle.tam_eval.proofs.Caught.{GoesOn, AllReached, reached-placed, goes-then
 use Rattle.tam_eval.proofs.Firing.{GoesTo, same-state, longer}
 use Rattle.tam_eval.proofs.Answers.{FitsAfter, delivery-fits, answered-fits}
 use Rattle.tam_eval.proofs.Sizes.{Few}
-use Rattle.tam_eval.proofs.Gives.{some-word, got-has}
+use Rattle.tam_flow.proofs.ActivationLists.{has-word}
+use Rattle.tam_eval.proofs.Gives.{got-has}
 use Rattle.tam_eval.proofs.Charges.{Charge, HasReceived, is_asking, asks-none, charge-word, charge-ask}
 
 -- what is left of a list was in it
@@ -187,7 +188,7 @@ module _ (g : Graph) (args : List ℕ) (s : State) (all : AllReached g args s) (
     word-fresh : (f x v : ℕ) → m ≡ Carry f x v → (f ≡ outside → ⊥) → HasReceived g s f x → ⊥
     word-fresh f x v p n h =
         let q = (reached-now g args s all now).once.not_yet found.number f x v n (was-sent ∙ ap Some p) found.not_yet in
-        let r = some-word (activation_at s.world f).words x h.word in
+        let r = has-word (activation_at s.world f).words x h.word in
         let z : [] ≡ r.0 ∷ [] = sym q ∙ r.1 in absurd cc
 
     -- its charge, in a state with this world
@@ -206,9 +207,12 @@ module _ (g : Graph) (args : List ℕ) (s : State) (all : AllReached g args s) (
             let none : e.sends ≡ [] = ap (λ (z : Effect). z.sends) is_e in
             let wd : t.world ≡ got s.world f x v = w ∙ ap (λ (z : Effect). z.world) is_e in
             charge-word g JustNone s t mv old n k f x
-                (way ∙ (ap (λ l. without_place k (on_their_way s) ++ l) none ∙ none-behind (without_place k (on_their_way s))))
-            (record { inlet = for-later g JustNone s.world t.world mv f x fit; word = subst (λ (z : World). has_word z f x ≡ true) (sym wd)
-                (got-has s.world f x v fit.0) })
+            (way ∙ (ap (λ l. without_place k (on_their_way s) ++ l) none ∙ none-behind (without_place k (on_their_way s))))
+            (record {
+              inlet = for-later g JustNone s.world t.world mv f x fit;
+              word = subst (λ (z : World). has_word z f x ≡ true) (sym wd)
+                  (got-has s.world f x v fit.0);
+            })
             (word-fresh f x v p out) q
 
         carry : (f x v : ℕ) → m ≡ Carry f x v → (b : Bool) → (f == outside) ≡ b → Charge g t (n + 1)
@@ -226,9 +230,9 @@ module _ (g : Graph) (args : List ℕ) (s : State) (all : AllReached g args s) (
     went-goes : (order : List Item) (events : ℕ) → GoesTo g s (after_effect g (taken s ready order events k) e)
     went-goes order events =
         let u = all-caught g after follows.whole (reached-placed g args after (reached-now g args after
-            (reached-on g args s after (Deliver found.number ∷ []) (goes (Went e) is) all) few)) in
+        (reached-on g args s after (Deliver found.number ∷ []) (goes (Went e) is) all) few)) in
         let st = steps-then g JustNone s after u.0 _ follows.runs moves u.1 u.2 (λ j b l h. h) (λ j b l h. inl h) (λ j b l y f h. absurd h)
-            (λ j y h. absurd h) (λ j y h. absurd h) in
+        (λ j y h. absurd h) (λ j y h. absurd h) in
         record {
           state = u.0;
           events = Deliver found.number ∷ u.1.events;
@@ -269,7 +273,7 @@ module _ (g : Graph) (args : List ℕ) (s : State) (all : AllReached g args s) (
     charge = λ n q. charge-ask g JustNone s (record s { printed = s.printed ++ (p, v) ∷ []; arrived = found.number ∷ s.arrived })
         (moves-none g JustNone s.world) (λ i b l h. h) n k m []
         (way-is (record s { printed = s.printed ++ (p, v) ∷ []; arrived = found.number ∷ s.arrived }) ∙
-            (way-left ∙ sym (none-behind (without_place k (on_their_way s)))))
+        (way-left ∙ sym (none-behind (without_place k (on_their_way s)))))
         refl at (printed-asks s.world m p v is) q;
     same = same-state ready order events s.world s.world (without_place k (on_their_way s)) _ (s.printed ++ (p, v) ∷ []) (s.printed ++ (p, v) ∷ []) refl
         (sym (way-is (record s { printed = s.printed ++ (p, v) ∷ []; arrived = found.number ∷ s.arrived }) ∙ way-left)) refl;

@@ -91,7 +91,7 @@ module _ (g : Graph) (acc : IsAccepted g) (args : List ℕ) (s : State) (all : A
   pub may : may_follow g (singles g) s (Run i (block_at c x) place.0) ≡ true
   may = true-both (is_none s.fault) (may_run g (singles g) s i (block_at c x) place.0) (ap (λ (o : Option Fault). is_none o) follows.whole)
       (may_run-firer g s i (block_at c x) block-there place.0 x place.1
-          (follows.stands.ready_unrun i x (block_at c x) place.0 (inl refl) place.1) enabled.entered
+      (follows.stands.ready_unrun i x (block_at c x) place.0 (inl refl) place.1) enabled.entered
       (λ d a f m. giver-ran d a f (enabled.words a m)))
 
   -- so some event may
@@ -129,16 +129,19 @@ module _ (g : Graph) (acc : IsAccepted g) (args : List ℕ) (s : State) (all : A
       go : (has_run s j b k ≡ true) ⊎ ((i ≡ j) × (block_at c x ≡ b) × (place.0 ≡ k))
           → (has_run s j b k ≡ true) ⊎ ((y : ℕ) × Firer (its_code g after.world j) b k y × JustOne i x j y)
       go (inl r) = inl r
-      go (inr (e, f, d)) = inr (x,
-          subst (λ z. Firer (its_code g after.world z) b k x) e (subst (λ z. Firer (its_code g after.world i) z k x) f
-          (subst (λ z. Firer (its_code g after.world i) (block_at c x) z x) d
-              (subst (λ z. Firer z (block_at c x) place.0 x) (sym code-same) place.1))), (sym e, refl))
+      go (inr (e, f, d)) = inr (
+        x,
+        subst (λ z. Firer (its_code g after.world z) b k x) e (subst (λ z. Firer (its_code g after.world i) z k x) f
+            (subst (λ z. Firer (its_code g after.world i) (block_at c x) z x) d
+            (subst (λ z. Firer z (block_at c x) place.0 x) (sym code-same) place.1))),
+        (sym e, refl),
+      )
 
   -- and this vertex has
   just-ran : (j b k y : ℕ) → Firer (its_code g after.world j) b k y → JustOne i x j y → has_run after j b k ≡ true
   just-ran j b k y f (e, d) =
       let q : Firer c b k x = subst (λ z. Firer z b k x) code-same
-          (subst (λ z. Firer (its_code g after.world z) b k x) e (subst (Firer (its_code g after.world j) b k) d f)) in
+      (subst (λ z. Firer (its_code g after.world z) b k x) e (subst (Firer (its_code g after.world j) b k) d f)) in
       let p : block_at c x ≡ b = firer-block c b k x q in
       let o : k ≡ place.0 = firer-one c (block_at c x) k place.0 x (subst (λ z. Firer c z k x) (sym p) q) place.1 in
       subst (λ z. has_run after z b k ≡ true) (sym e) (subst (λ z. has_run after i z k ≡ true) p (subst (λ z. has_run after i (block_at c x) z ≡ true) (sym o)
@@ -169,7 +172,7 @@ module _ (g : Graph) (acc : IsAccepted g) (args : List ℕ) (s : State) (all : A
   has-fired : (t : State) → Steps g (JustOne i x) s t → HasFired g t i x
   has-fired t st =
       let f : Firer (its_code g t.world i) (block_at c x) place.0 x =
-          subst (λ z. Firer z (block_at c x) place.0 x) (sym (ap (code_of g) (st.moves.codes i here.0))) place.1 in
+      subst (λ z. Firer z (block_at c x) place.0 x) (sym (ap (code_of g) (st.moves.codes i here.0))) place.1 in
       record {
         block = block_at c x;
         place = place.0;
@@ -185,12 +188,12 @@ module _ (g : Graph) (acc : IsAccepted g) (args : List ℕ) (s : State) (all : A
       let u = all-caught g after follows.whole after-placed in
       let t = u.0 in
       let st = steps-then g (JustOne i x) s after u.0 _ follows.runs moves u.1 u.2 (λ j b k h. ran-old s i (block_at c x) place.0 j b k h) ran-after just-ran
-          (λ j y e. subst (λ z. IsThere s.world z × (is_enabled g s.world z y ≡ true)) (sym e.0)
-              (subst (λ z. IsThere s.world i × (is_enabled g s.world i z ≡ true)) (sym e.1) here))
-          (λ j y e n. subst (λ z. has_word after.world z y ≡ true) (sym e.0) (subst (λ z. has_word after.world i z ≡ true) (sym e.1)
-              (fired-gives g s.world i x here.0
-                  (subst (λ z. is_inner (kind_at c z) ≡ true) e.1 (subst (λ z. is_inner (kind_at (its_code g s.world z) y) ≡ true) e.0 n))
-              enabled.words))) in
+      (λ j y e. subst (λ z. IsThere s.world z × (is_enabled g s.world z y ≡ true)) (sym e.0)
+      (subst (λ z. IsThere s.world i × (is_enabled g s.world i z ≡ true)) (sym e.1) here))
+      (λ j y e n. subst (λ z. has_word after.world z y ≡ true) (sym e.0) (subst (λ z. has_word after.world i z ≡ true) (sym e.1)
+      (fired-gives g s.world i x here.0
+      (subst (λ z. is_inner (kind_at c z) ≡ true) e.1 (subst (λ z. is_inner (kind_at (its_code g s.world z) y) ≡ true) e.0 n))
+      enabled.words))) in
       record {
         state = u.0;
         events = Run i (block_at c x) place.0 ∷ u.1.events;

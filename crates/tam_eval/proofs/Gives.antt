@@ -1,32 +1,23 @@
 -- A const, an operator or a seq that fires gives its node a word; no firing changes arrays.
-use Rattle.std.proofs.Common.{◌≡◌, ℕ, zero, suc, ◌<◌, Bool, true, false, List, [], ◌∷◌, ◌++◌, refl, sym, subst, ap, inl, inr, ◌∙◌, true≢false}
-use Rattle.std.proofs.Common.{◌==◌, length, map, flat_map, slice_get, Some, arith}
-use Rattle.tam_word.specs.Lists.{any_of, changed_at}
+use Rattle.std.proofs.Common.{◌≡◌, ℕ, zero, suc, ◌<◌, true, List, [], ◌∷◌, ◌++◌, refl, sym, subst, ap, inl, inr, ◌∙◌, true≢false}
+use Rattle.std.proofs.Common.{length, map, flat_map, slice_get, Some, arith}
+use Rattle.tam_word.specs.Lists.{changed_at}
 use Rattle.tam_word.proofs.Members.{In}
 use Rattle.tam_graph.specs.declared.kind.Kind.{Kind}
 use Rattle.tam_graph.specs.declared.kind.Kind.TheVariants.{Const, Op as Operate, Seq, Call, Arg, Give, Alloc, Fetch, Store, Cond, Switch, Leave}
 use Rattle.tam_graph.specs.Graphs.{Graph, kind_at, operands_of, block_at, node_in, chosen_branch, is_enter, owner_of}
 use Rattle.tam_split.proofs.Firers.{is_inner}
-use Rattle.tam_flow.specs.Worlds.{World, ActivationState, or_activation, activation_at, its_code, word_among, words_of, has_word, with_word, got, all_got}
+use Rattle.tam_flow.specs.Worlds.{World, ActivationState, or_activation, activation_at, its_code, words_of, has_word, with_word, got, all_got}
 use Rattle.tam_flow.specs.Worlds.{firing_of, fired_with, fired, merges_of}
 use Rattle.tam_flow.specs.Reached.{IsThere}
-use Rattle.tam_flow.proofs.Moves.{word-here}
-
--- a word that is there
-pub some-word : (es : List (ℕ × ℕ)) (x : ℕ) → any_of (λ e. e.0 == x) es ≡ true → (v : ℕ) × (word_among es x ≡ v ∷ [])
-some-word [] x h = absurd (true≢false (sym h))
-some-word (e ∷ es) x h = go (e.0 == x) refl (some-word es x)
-  where
-    go : (t : Bool) → (e.0 == x) ≡ t → (any_of (λ d. d.0 == x) es ≡ true → (v : ℕ) × (word_among es x ≡ v ∷ [])) → (v : ℕ) × (word_among (e ∷ es) x ≡ v ∷ [])
-    go true p f = (e.1, rw (word_among, p) refl)
-    go false p f = let r = f (rw (any_of, p) at h) in (r.0, rw (word_among, p) r.1)
+use Rattle.tam_flow.proofs.ActivationLists.{has_among, has-word, has-here}
 
 -- where each node has a word there are words of them, as many
 pub some-words : (w : World) (i : ℕ) (xs : List ℕ) → ((a : ℕ) → In a xs → has_word w i a ≡ true)
     → (vs : List ℕ) × (words_of w i xs ≡ vs ∷ []) × (length vs ≡ length xs)
 some-words w i [] h = ([], refl, refl)
 some-words w i (x ∷ xs) h =
-    let u = some-word (activation_at w i).words x (h x (inl refl)) in
+    let u = has-word (activation_at w i).words x (h x (inl refl)) in
     let r = some-words w i xs (λ a m. h a (inr m)) in
     (u.0 ∷ r.0, ap (λ l. flat_map (λ v. map (λ vs. v ∷ vs) (words_of w i xs)) l) u.1 ∙ ap (λ l. map (λ vs. u.0 ∷ vs) l ++ []) r.1, ap suc r.2)
 
@@ -34,7 +25,7 @@ some-words w i (x ∷ xs) h =
 pub got-has : (w : World) (i x u : ℕ) → IsThere w i → has_word (got w i x u) i x ≡ true
 got-has w i x u h =
     let r = changed-here i w.activations h in
-    ap (λ o. any_of (λ e. e.0 == x) (or_activation o).words) r.1 ∙ word-here x u r.0
+    ap (λ o. has_among (or_activation o).words x) r.1 ∙ has-here x u r.0.words
   where
     changed-here : (j : ℕ) (xs : List ActivationState) → j < length xs → (a : ActivationState) ×
         (slice_get (changed_at j (with_word x u) xs) j ≡ Some (with_word x u a))

@@ -103,11 +103,11 @@ module _ (g : Graph) (args : List ℕ) where
       words_values = λ i x h. absurd (no-word i x h);
     };
     stands = ready-later g JustNone nothing (initial g args) nothing-runs opening-steps [] [] (record {
-          ready_enabled = λ i x h. absurd h;
-          ready_unrun = λ i x b k h f. absurd h;
-          enabled_ready = λ i x b k l e f h. absurd (none-there i l);
-          once = tt;
-        }) (λ i x h. absurd h) (λ i x h. absurd h) tt;
+      ready_enabled = λ i x h. absurd h;
+      ready_unrun = λ i x b k h f. absurd h;
+      enabled_ready = λ i x b k l e f h. absurd (none-there i l);
+      once = tt;
+    }) (λ i x h. absurd h) (λ i x h. absurd h) tt;
     messages = record {
       fit = λ m h. opening-fits m (subst (In m) opening-way h);
       readers = λ a j rs r e h. absurd (no-cell a j rs e);

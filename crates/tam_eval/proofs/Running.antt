@@ -241,7 +241,7 @@ module _ (g : Graph) (acc : IsAccepted g) (args : List ℕ) (limits : Limits) (s
     unless-step rest [] e p =
         let z = after-sized e p in
         delivered-step rest (delivered s.world m) p z
-            (delivery-goes g args s all few ready follows k m at (few-after (delivered s.world m) p z) rest (made + 1))
+        (delivery-goes g args s all few ready follows k m at (few-after (delivered s.world m) p z) rest (made + 1))
     unless-step rest (h ∷ more) e p = record {
       state = s;
       events = [];
@@ -307,7 +307,7 @@ run-goes g acc args limits zero s all made b ranges sized charge ready order fol
   where
     go : (o : Outcome GraphState) → graph_step g limits (graph_of s ready order made) ≡ o → StepGoes g limits s made o
         → EndGoes g limits s (run_from (graph_step g limits) zero (graph_of s ready order made)).0
-            (run_from (graph_step g limits) zero (graph_of s ready order made)).1
+        (run_from (graph_step g limits) zero (graph_of s ready order made)).1
     go (Next d) e h = absurd (true≢false (sym (eq-number made limits.budget (omega arith)) ∙ h.2))
     go (Ended how d) e h =
         subst (λ (r : End × GraphState). EndGoes g limits s r.0 r.1) (sym (run-ended (graph_step g limits) zero (graph_of s ready order made) d how e)) h
@@ -317,11 +317,11 @@ run-goes g acc args limits (suc n) s all made b ranges sized charge ready order 
   where
     go : (o : Outcome GraphState) → graph_step g limits (graph_of s ready order made) ≡ o → StepGoes g limits s made o
         → ((t : State) (es : List Event) → GoesOn g s t es → Sized limits t.world (made + 1) → Charge g t (made + 1) → (r : List (ℕ × ℕ))
-            (q : List Item) → Follows g r t
-            → EndGoes g limits t (run_from (graph_step g limits) n (graph_of t r q (made + 1))).0
-                (run_from (graph_step g limits) n (graph_of t r q (made + 1))).1)
+        (q : List Item) → Follows g r t
+        → EndGoes g limits t (run_from (graph_step g limits) n (graph_of t r q (made + 1))).0
+        (run_from (graph_step g limits) n (graph_of t r q (made + 1))).1)
         → EndGoes g limits s (run_from (graph_step g limits) (suc n) (graph_of s ready order made)).0
-            (run_from (graph_step g limits) (suc n) (graph_of s ready order made)).1
+        (run_from (graph_step g limits) (suc n) (graph_of s ready order made)).1
     go (Ended how d) e h f =
         subst (λ (r : End × GraphState). EndGoes g limits s r.0 r.1) (sym (run-ended (graph_step g limits) (suc n) (graph_of s ready order made) d how e)) h
     go (Next d) e (h, q, p, z) f =

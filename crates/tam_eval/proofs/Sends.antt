@@ -1,6 +1,6 @@
 -- What a firing sends is for inlets, or asks for one.
 use Rattle.std.proofs.Common.{◌≡◌, ℕ, zero, suc, ◌<◌, Bool, true, false, ◌&&◌, List, [], ◌∷◌, refl, sym, subst, ap, inl, inr, ◌⊎◌, ◌∙◌, true≢false}
-use Rattle.std.proofs.Common.{◌==◌, length, map, arith, nat_lt}
+use Rattle.std.proofs.Common.{◌==◌, length, map, arith, nat_lt, Option, Some, None, slice_index_or, option_to_list}
 use Rattle.tam_word.proofs.Tests.{eq-number, both-true}
 use Rattle.tam_word.proofs.Members.{In, all-in, in-flat_map, in-map}
 use Rattle.tam_graph.specs.declared.kind.Kind.{Kind}
@@ -14,26 +14,23 @@ use Rattle.tam_split.proofs.Firers.{kind-there}
 use Rattle.tam_msgs.specs.declared.message.Message.{Message}
 use Rattle.tam_msgs.specs.declared.message.Message.TheVariants.{Word as Carry}
 use Rattle.tam_msgs.specs.Messages.{outside}
-use Rattle.tam_flow.specs.Worlds.{World, activation_at, its_code, word_among, word_of, words_of, result_message, firing_of, fired_with, fired}
+use Rattle.tam_flow.specs.Worlds.{World, activation_at, its_code, word_of, words_of, result_message, firing_of, fired_with, fired}
 use Rattle.tam_flow.specs.Journals.{State}
 use Rattle.tam_flow.specs.Reached.{IsThere, IsReached}
+use Rattle.tam_flow.proofs.ActivationLists.{word_among}
 use Rattle.tam_flow.proofs.SingleRuns.{below-test}
 use Rattle.tam_flow.proofs.Moves.{Fits, param-where, ret-where}
 
 -- ---- words of operands
 
 -- a node has one word at most
-one-word : (es : List (ℕ × ℕ)) (x v : ℕ) → In v (word_among es x) → word_among es x ≡ v ∷ []
-one-word [] x v h = absurd h
-one-word (e ∷ es) x v h = go (e.0 == x) refl (one-word es x v)
+one-word : (words : List (Option ℕ)) (x v : ℕ) → In v (word_among words x) → word_among words x ≡ v ∷ []
+one-word words x v h = go (slice_index_or words x None) h
   where
-    one : In v (e.1 ∷ []) → e.1 ∷ [] ≡ v ∷ []
-    one (inl q) = ap (λ y. y ∷ []) q
-    one (inr q) = absurd q
-
-    go : (t : Bool) → (e.0 == x) ≡ t → (In v (word_among es x) → word_among es x ≡ v ∷ []) → word_among (e ∷ es) x ≡ v ∷ []
-    go true p f = rw (word_among, p) (one (rw (word_among, p) at h))
-    go false p f = rw (word_among, p) (f (rw (word_among, p) at h))
+    go : (o : Option ℕ) → In v (option_to_list o) → option_to_list o ≡ v ∷ []
+    go None k = absurd k
+    go (Some u) (inl e) = ap (λ y. y ∷ []) e
+    go (Some u) (inr k) = absurd k
 
 -- words of nodes are words of each
 pub words-in : (w : World) (i x : ℕ) (xs vs : List ℕ) → In vs (words_of w i (x ∷ xs))
@@ -100,11 +97,11 @@ module _ (g : Graph) (acc : IsAccepted g) (args : List ℕ) (s : State) (reached
       let u = (reached.words.suit i f p (second-word s.world i a f v p h)).by_call c.0 c.1 in
       let d = reached.activations.calls p u.0 u.1 in
       let q : kind_at (its_code g s.world i) f ≡ Call (activation_at s.world p).code =
-          subst (λ y. kind_at (its_code g s.world y) f ≡ Call (activation_at s.world p).code) u.2
-          (subst (λ y. kind_at (its_code g s.world (activation_at s.world p).caller) y ≡ Call (activation_at s.world p).code) u.3 d) in
+      subst (λ y. kind_at (its_code g s.world y) f ≡ Call (activation_at s.world p).code) u.2
+      (subst (λ y. kind_at (its_code g s.world (activation_at s.world p).caller) y ≡ Call (activation_at s.world p).code) u.3 d) in
       let z : code_of g (callee_of (its_code g s.world i) f) ≡ its_code g s.world p = ap (λ y. code_of g (callee_of_kind y)) q in
       subst (Fits g s.world) r.2 (inr
-          (u.1, subst (λ y. is_inlet (kind_at y r.0) ≡ true) z (param-where (code_of g (callee_of (its_code g s.world i) f)) k r.0 r.1)))
+      (u.1, subst (λ y. is_inlet (kind_at y r.0) ≡ true) z (param-where (code_of g (callee_of (its_code g s.world i) f)) k r.0 r.1)))
 
   -- a result is for a ret of the caller, or goes outside
   result-fits : (k v : ℕ) (m : Message) → In m (result_message g s.world i k v) → Fits g s.world m
@@ -124,7 +121,7 @@ module _ (g : Graph) (acc : IsAccepted g) (args : List ℕ) (s : State) (reached
       back n (inl e) p = absurd (true≢false (sym (eq-number (activation_at s.world i).caller outside e) ∙ p))
       back n (inr l) p =
           let r = in-map (λ (y : ℕ). Carry (activation_at s.world i).caller y v) m
-              (node_where (its_code g s.world (activation_at s.world i).caller) (is_ret (activation_at s.world i).call k)) n in
+          (node_where (its_code g s.world (activation_at s.world i).caller) (is_ret (activation_at s.world i).call k)) n in
           let b : (activation_at s.world i).caller < i = reached.activations.callers i l there in
           let t : i < length s.world.activations = there in
           let d : (activation_at s.world i).caller < length s.world.activations = omega arith in

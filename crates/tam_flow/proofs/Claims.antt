@@ -1,7 +1,6 @@
 -- What a state at rest tells of each fact that holds, and the lemmas by which it does: numbers and paths, words and meanings, outlets that ran.
-use Rattle.std.proofs.Common.{◌≡◌, ℕ, zero, suc, ◌<◌, List, [], ◌∷◌, Bool, true, false, refl, sym, subst, ap, inl, inr, ◌∙◌, true≢false, length, arith, ◌==◌}
+use Rattle.std.proofs.Common.{◌≡◌, ℕ, zero, suc, ◌<◌, List, [], ◌∷◌, true, false, refl, sym, subst, ap, inl, inr, ◌∙◌, true≢false, length, arith, ◌==◌}
 use Rattle.std.specs.List.{AllByRecursion}
-use Rattle.tam_word.specs.Lists.{any_of}
 use Rattle.tam_word.proofs.Tests.{self-eq, true-both}
 use Rattle.tam_word.proofs.Members.{In, in-any, filter-in, below-in}
 use Rattle.tam_graph.specs.declared.kind.Kind.{Kind}
@@ -19,10 +18,11 @@ use Rattle.tam_split.proofs.BlockVertices.{at-vertex, at-within, place-at, outle
 use Rattle.tam_split.proofs.LeastClasses.{valid-at}
 use Rattle.tam_split.proofs.Depends.{Depends, depends-inlet, depends-inner, depends-outlet}
 use Rattle.tam_fire.specs.FiringRules.{Path, Value, Word, Fact, Begun, Entered, Val, Fired, code_at, the_code, node_of, values}
-use Rattle.tam_flow.specs.Worlds.{World, activation_at, its_code, word_among, has_word, has_entered}
+use Rattle.tam_flow.specs.Worlds.{World, activation_at, its_code, has_word, has_entered}
 use Rattle.tam_flow.specs.Journals.{State, has_run, block_of_act, parts_of_act}
 use Rattle.tam_flow.specs.Told.{array_of, meant_at, HasWord, HaveWords, outlet_place, IsNumber, Tells}
 use Rattle.tam_flow.specs.Reached.{kind_of, depth_of, IsThere, WasSent, Has, HasSome, HaveSome, Ran, IsReached}
+use Rattle.tam_flow.proofs.ActivationLists.{word-there}
 use Rattle.tam_flow.proofs.Quiet.{IsAtRest, sent-arrived, outlet-class-ran}
 
 -- what the word u of node x of activation i means
@@ -73,16 +73,7 @@ array-meaning w k d e u n p = meant-plain w k d u n ∙ ap (λ z. plain w z u) p
 
 -- ---- words
 
--- a node with a word has one
-pub word-there : (es : List (ℕ × ℕ)) (x u : ℕ) → word_among es x ≡ u ∷ [] → any_of (λ e. e.0 == x) es ≡ true
-word-there [] x u h = absurd (cc)
-word-there (e ∷ es) x u h = go (e.0 == x) refl (word-there es x u)
-  where
-    go : (b : Bool) → (e.0 == x) ≡ b → (word_among es x ≡ u ∷ [] → any_of (λ e. e.0 == x) es ≡ true) → any_of (λ e. e.0 == x) (e ∷ es) ≡ true
-    go true p f = rw (any_of, p) refl
-    go false p f = rw (any_of, p) (f (rw (word_among, p) at h))
-
--- and one only
+-- a node has one word only
 pub one-word : (s : State) (i x u t : ℕ) → Has s i x u → Has s i x t → u ≡ t
 one-word s i x u t h k = head (sym h ∙ k)
   where

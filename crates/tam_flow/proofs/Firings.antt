@@ -1,5 +1,5 @@
 -- A firing of a node whose block is entered and whose operands have words leaves a world that has its reasons, and sends messages that have theirs.
-use Rattle.std.proofs.Common.{◌≡◌, ℕ, zero, suc, ◌<◌, Bool, true, false, ◌==◌, ◌&&◌, ◌||◌, not, List, [], ◌∷◌, ◌++◌, map, flat_map, Option, Some, None, length, slice_get, nat_lt, refl, sym, ap, ◌∙◌, arith, tests, subst, inl, inr, ◌⊎◌, ⊎_elim, true≢false}
+use Rattle.std.proofs.Common.{◌≡◌, ℕ, zero, suc, ◌<◌, Bool, true, false, ◌==◌, ◌&&◌, ◌||◌, not, List, [], ◌∷◌, ◌++◌, map, flat_map, Option, Some, None, length, slice_get, nat_lt, refl, sym, ap, ◌∙◌, arith, tests, subst, inl, inr, ⊎_elim, true≢false}
 use Rattle.std.specs.List.{AllByRecursion}
 use Rattle.tam_word.specs.Words.{meaning}
 use Rattle.tam_word.specs.declared.op.Op.{Op}
@@ -13,11 +13,12 @@ use Rattle.tam_graph.specs.Graphs.{Graph, Code, code_of, kind_at, block_at, dept
 use Rattle.tam_graph.specs.Accepted.{IsAccepted, has_right_depth, all_depths, both_enter_depth, enters_depth, gives_depth}
 use Rattle.tam_fire.specs.FiringRules.{Value, Word, Activation, Array, Val, Fired, Entered, Holds, values, node_of, block_of, code_at, the_code, const_gives, op_gives, seq_gives, outlet_fires, arg_comes, result_comes, cond_enters, switch_comes, out_comes}
 use Rattle.tam_fire.proofs.Following.{holds-by}
-use Rattle.tam_flow.specs.Worlds.{World, changes, sends_only, got, entered, all_got, activation_at, its_code, word_of, word_among, words_of, result_message, merges_of, firing_of, fired_with, fired}
+use Rattle.tam_flow.specs.Worlds.{World, changes, sends_only, got, entered, all_got, activation_at, its_code, word_of, words_of, result_message, merges_of, firing_of, fired_with, fired}
 use Rattle.tam_flow.specs.Told.{IsNumber, path_of}
 use Rattle.tam_flow.specs.Reached.{IsThere}
 use Rattle.tam_word.proofs.Tests.{and-left, and-right, number-eq, test-below, below-test}
 use Rattle.tam_word.proofs.Each.{all-of_each, each-below, all-more, all-map, all-flat}
+use Rattle.tam_flow.proofs.ActivationLists.{word-shape}
 use Rattle.tam_flow.proofs.Growing.{grows-same, grows-on, grows-got, grows-entered}
 use Rattle.tam_flow.proofs.Justified.{StandsFor, IsNoCall, IsValue, IsPutBy, IsMessage, IsSoundWorld, depth_in, value-later}
 use Rattle.tam_flow.proofs.Changes.{BlockHolds, sound-got, sound-entered}
@@ -37,16 +38,6 @@ cons-nil q = cc
 
 head-is : {A : Type 0} {a b : A} {l m : List A} → a ∷ l ≡ b ∷ m → a ≡ b
 head-is q = cc
-
--- a node has one word or none
-word-shape : (es : List (ℕ × ℕ)) (x : ℕ) → (word_among es x ≡ []) ⊎ ((v : ℕ) × (word_among es x ≡ v ∷ []))
-word-shape [] x = inl refl
-word-shape (e ∷ es) x = go (e.0 == x) refl (word-shape es x)
-  where
-    go : (b : Bool) → (e.0 == x) ≡ b → (word_among es x ≡ []) ⊎ ((v : ℕ) × (word_among es x ≡ v ∷ []))
-        → (word_among (e ∷ es) x ≡ []) ⊎ ((v : ℕ) × (word_among (e ∷ es) x ≡ v ∷ []))
-    go true d i = inr (e.1, rw (word_among, d) refl)
-    go false d i = rw (word_among, d) i
 
 -- the words of nodes, where there are any, are each node's word
 pub words-are : (w : World) (i : ℕ) (xs vs : List ℕ) (more : List (List ℕ)) → words_of w i xs ≡ vs ∷ more → HaveThese w i xs vs

@@ -20,6 +20,7 @@ use Rattle.tam_flow.specs.JournalLaws.{IsJournal}
 use Rattle.tam_flow.specs.Reached.{IsThere, cell_at}
 use Rattle.tam_word.proofs.Tests.{and-left, and-right, true-both, not-true, self-eq}
 use Rattle.tam_word.proofs.Each.{all-more, all-append, all-map, all-flat, all-at_place, get-left, get-last, last-or_before, each-in}
+use Rattle.tam_flow.proofs.ActivationLists.{was_entered}
 use Rattle.tam_flow.proofs.Growing.{Grows, grows-same, with_begun, grows-begun, path-begun}
 use Rattle.tam_flow.proofs.Justified.{IsPutBy, IsMessage}
 use Rattle.tam_flow.proofs.CellChanges.{none-some, some-eq}
@@ -365,7 +366,7 @@ module _ (g : Graph) (args : List ℕ) (accepted : IsAccepted g) (all : Partitio
         where
           this : j ≡ length s.world.activations → has_entered (with_begun s.world c f y) j 0 ≡ true
           this e = subst (λ n. has_entered (with_begun s.world c f y) n 0 ≡ true) (sym e)
-              (subst (λ o. has (or_activation o).entered 0 ≡ true) (sym (get-last s.world.activations (begun c f y))) refl)
+              (subst (λ o. was_entered (or_activation o).entered 0 ≡ true) (sym (get-last s.world.activations (begun c f y))) refl)
 
       -- an activation begins
       module _ (c f y : ℕ) (begins : x ≡ Begin c f y) (there : IsThere s.world f) (inside : (f == outside) ≡ false) where

@@ -91,8 +91,15 @@ may_run-parts g all s i b k h =
 -- and the other way round
 pub parts-may_run : (g : Graph) (all : Partitions) (s : State) (i b k : ℕ) → MayRun g all s i b k → may_run g all s i b k ≡ true
 parts-may_run g all s i b k h =
-    rw (below-test i (length s.world.activations) h.act, below-test k
-        (length (parts_of_act g all s i b)) h.class, h.not_ran, h.entered, h.words, h.before) refl
+    rw (
+      below-test i (length s.world.activations) h.act,
+      below-test k
+          (length (parts_of_act g all s i b)) h.class,
+      h.not_ran,
+      h.entered,
+      h.words,
+      h.before,
+    ) refl
 
 module _ (g : Graph) (s : State) (i b : ℕ) (there : BlockThere g s.world i b) where
   -- the code of the activation
@@ -133,7 +140,7 @@ module _ (g : Graph) (s : State) (i b : ℕ) (there : BlockThere g s.world i b) 
   may_run-word k v h p w =
       let q = subst (λ l. inlets_have_words (block_of_act g s i b) s i l ≡ true) (class-is k (slice_get_within (vertices_in c b) k v h)) w in
       let r = all-in (λ x. inlet_has s i (vertex_at (block_of_act g s i b) x))
-          (k ∷ []) q k (inl refl) in
+      (k ∷ []) q k (inl refl) in
       let t = subst (λ (u : Vertex). inlet_has s i u ≡ true) (ap or_vertex h) r in
       rw (inlet_has, p) at t
 
@@ -142,7 +149,7 @@ module _ (g : Graph) (s : State) (i b : ℕ) (there : BlockThere g s.world i b) 
       → those_before_ran (block_of_act g s i b) (parts_of_act g (singles g) s i b) s i b k ≡ true
   before-ran k f = in-all (λ d. before_has s i b (block_of_act g s i b).edges (parts_of_act g (singles g) s i b) k d)
       (below (length (parts_of_act g (singles g) s i b)))
-          (λ d h. go d (directly_before (block_of_act g s i b).edges (parts_of_act g (singles g) s i b) d k) refl)
+      (λ d h. go d (directly_before (block_of_act g s i b).edges (parts_of_act g (singles g) s i b) d k) refl)
     where
       go : (d : ℕ) (t : Bool) → directly_before (block_of_act g s i b).edges (parts_of_act g (singles g) s i b) d k ≡ t
           → before_has s i b (block_of_act g s i b).edges (parts_of_act g (singles g) s i b) k d ≡ true
@@ -156,11 +163,11 @@ module _ (g : Graph) (s : State) (i b : ℕ) (there : BlockThere g s.world i b) 
   ran-before k d h e n =
       let l : d < length (vertices_in c b) = (edge-places c b (d, k) e).0 in
       let r = all-in (λ x. before_has s i b (block_of_act g s i b).edges (parts_of_act g (singles g) s i b) k x)
-          (below (length (parts_of_act g (singles g) s i b))) h d
-              (below-in d (length (parts_of_act g (singles g) s i b)) (subst (λ m. d < m) (sym classes) l)) in
+      (below (length (parts_of_act g (singles g) s i b))) h d
+      (below-in d (length (parts_of_act g (singles g) s i b)) (subst (λ m. d < m) (sym classes) l)) in
       let p : directly_before (block_of_act g s i b).edges (parts_of_act g (singles g) s i b) d k ≡ true =
-          subst (λ ps. directly_before (edges_among c (vertices_in c b)) ps d k ≡ true) (sym parts-are)
-          (edge-before (length (vertices_in c b)) (edges_among c (vertices_in c b)) d k (edge-places c b) e n) in
+      subst (λ ps. directly_before (edges_among c (vertices_in c b)) ps d k ≡ true) (sym parts-are)
+      (edge-before (length (vertices_in c b)) (edges_among c (vertices_in c b)) d k (edge-places c b) e n) in
       rw (before_has, p) at r
 
   -- ---- what runs do
@@ -170,10 +177,10 @@ module _ (g : Graph) (s : State) (i b : ℕ) (there : BlockThere g s.world i b) 
       → class_fired g (singles g) s i b k ≡ record { world = (fired g s.world i x).world; sends = (fired g s.world i x).sends }
   run-firer k x f =
       subst (λ l. fire_each g (block_of_act g s i b) i (record { world = s.world; sends = [] }) (firing_order (block_of_act g s i b).edges l)
-          ≡ record { world = (fired g s.world i x).world; sends = (fired g s.world i x).sends })
+      ≡ record { world = (fired g s.world i x).world; sends = (fired g s.world i x).sends })
       (sym (class-is k (slice_get_within (vertices_in c b) k f.vertex f.stands)))
       (subst (λ l. fire_each g (block_of_act g s i b) i (record { world = s.world; sends = [] }) l
-          ≡ record { world = (fired g s.world i x).world; sends = (fired g s.world i x).sends })
+      ≡ record { world = (fired g s.world i x).world; sends = (fired g s.world i x).sends })
       (sym (firing-single (block_of_act g s i b).edges k)) one)
     where
       then : then_one g i (record { world = s.world; sends = [] }) f.vertex
@@ -188,7 +195,7 @@ module _ (g : Graph) (s : State) (i b : ℕ) (there : BlockThere g s.world i b) 
   pub run-inlet : (k x : ℕ) → InletAt c b k x → class_fired g (singles g) s i b k ≡ record { world = s.world; sends = [] }
   run-inlet k x f =
       subst (λ l. fire_each g (block_of_act g s i b) i (record { world = s.world; sends = [] }) (firing_order (block_of_act g s i b).edges l)
-          ≡ record { world = s.world; sends = [] })
+      ≡ record { world = s.world; sends = [] })
       (sym (class-is k (slice_get_within (vertices_in c b) k f.vertex f.stands)))
       (subst (λ l. fire_each g (block_of_act g s i b) i (record { world = s.world; sends = [] }) l ≡ record { world = s.world; sends = [] })
       (sym (firing-single (block_of_act g s i b).edges k)) one)
@@ -205,22 +212,22 @@ module _ (g : Graph) (s : State) (i b : ℕ) (there : BlockThere g s.world i b) 
   pub may_run-inlet : (k x : ℕ) → InletAt c b k x → has_run s i b k ≡ false → has_entered s.world i b ≡ true → has_word s.world i x ≡ true
       → may_run g (singles g) s i b k ≡ true
   may_run-inlet k x f r e w = parts-may_run g (singles g) s i b k (record {
-      act = there.act;
-      class = subst (λ m. k < m) (sym classes) (slice_get_within (vertices_in c b) k f.vertex f.stands);
-      not_ran = r;
-      entered = e;
-      words = words-of k f.vertex f.stands (λ h. subst (λ y. has_word s.world i y ≡ true) (sym f.of_node) w);
-      before = before-ran k (λ d h. absurd (no-edge c b d k f.vertex f.stands f.inlet h));
-    })
+    act = there.act;
+    class = subst (λ m. k < m) (sym classes) (slice_get_within (vertices_in c b) k f.vertex f.stands);
+    not_ran = r;
+    entered = e;
+    words = words-of k f.vertex f.stands (λ h. subst (λ y. has_word s.world i y ≡ true) (sym f.of_node) w);
+    before = before-ran k (λ d h. absurd (no-edge c b d k f.vertex f.stands f.inlet h));
+  })
 
   -- a vertex that fires may run once, where the givers of its operands have run
   pub may_run-firer : (k x : ℕ) → Firer c b k x → has_run s i b k ≡ false → has_entered s.world i b ≡ true
       → ((d a : ℕ) → Giver c b d a → In a (operands_of c (kind_at c x)) → has_run s i b d ≡ true) → may_run g (singles g) s i b k ≡ true
   may_run-firer k x f r e h = parts-may_run g (singles g) s i b k (record {
-      act = there.act;
-      class = subst (λ m. k < m) (sym classes) (slice_get_within (vertices_in c b) k f.vertex f.stands);
-      not_ran = r;
-      entered = e;
-      words = words-of k f.vertex f.stands (λ p. absurd (true≢false (sym p ∙ f.no_inlet)));
-      before = before-ran k (λ d m. let o = edge-operand c b d k x f m in h d o.0 o.2 o.1);
-    })
+    act = there.act;
+    class = subst (λ m. k < m) (sym classes) (slice_get_within (vertices_in c b) k f.vertex f.stands);
+    not_ran = r;
+    entered = e;
+    words = words-of k f.vertex f.stands (λ p. absurd (true≢false (sym p ∙ f.no_inlet)));
+    before = before-ran k (λ d m. let o = edge-operand c b d k x f m in h d o.0 o.2 o.1);
+  })

@@ -1,57 +1,16 @@
 -- A code of an accepted graph has at most 1024 nodes, each in one of its blocks.
-use Rattle.std.proofs.Common.{◌≡◌, ℕ, zero, suc, ◌+◌, ◌*◌, ◌/◌, ◌%◌, ◌<◌, ◌≤◌, Bool, true, false, ◌==◌, List, [], ◌∷◌, filter, sum_by, Option, Some, length, flat_map, nat_lt, refl, sym, ap, ap₂, arith, tests, subst, inl, inr}
+use Rattle.std.proofs.Common.{◌≡◌, ℕ, zero, suc, ◌+◌, ◌*◌, ◌/◌, ◌%◌, ◌<◌, ◌≤◌, Bool, true, false, ◌==◌, List, [], ◌∷◌, filter, sum_by, length, nat_lt, refl, ap, ap₂, arith, tests, subst, inr}
 use Rattle.std.specs.List.{AllByRecursion}
 use Rattle.std.proofs.lemmas.List.Sums.{sum_by-cons, sum_by_push}
 use Rattle.std.proofs.lemmas.List.{length-append}
 use Rattle.tam_word.specs.Lists.{below}
-use Rattle.tam_graph.specs.declared.kind.Kind.{Kind}
-use Rattle.tam_graph.specs.declared.kind.Kind.TheVariants.{Cond}
-use Rattle.tam_graph.specs.Graphs.{Code, kind_at, block_at, nodes_in, node_numbers, is_split}
-use Rattle.tam_graph.specs.Written.{IsWritten, vertices_at, in_branches, in_file_order, in_opening_order}
+use Rattle.tam_graph.specs.Graphs.{Code, kind_at, block_at, node_numbers, is_split}
+use Rattle.tam_graph.specs.Written.{IsWritten, vertices_at, in_file_order}
 use Rattle.tam_msgs.specs.Messages.{site, site_pair}
-use Rattle.tam_word.proofs.Each.{all-append, all-flat, all-more}
-use Rattle.tam_flow.proofs.Nodes.{block-each}
+use Rattle.tam_word.proofs.Each.{all-more, in-each}
+use Rattle.tam_graph.proofs.Visits.{blocks-below, node-visited}
 use Rattle.tam_graph.proofs.BranchBlocks.{opened-below, has-body}
-use Rattle.tam_word.proofs.Tests.{number-eq, test-below, below-test}
-use Rattle.tam_word.proofs.Members.{In, left-in, right-in}
-
-all-both : (P Q : ℕ → Type 0) (xs : List ℕ) → AllByRecursion P xs → AllByRecursion Q xs → AllByRecursion (λ x. P x × Q x) xs
-all-both P Q [] h k = tt
-all-both P Q (x ∷ xs) h k = ((h.0, k.0), all-both P Q xs h.1 k.1)
-
--- each node in file order stands in a block that was opened
-blocks-below : (n fuel : ℕ) (c : Code) (b : ℕ) → b < n → ((e : ℕ × Option ℕ) → In e (in_opening_order fuel c b) → e.0 < n)
-    → AllByRecursion (λ x. block_at c x < n) (in_file_order fuel c b)
-blocks-below n zero c b l h = tt
-blocks-below n (suc fuel) c b l h =
-    all-flat (λ x. block_at c x < n) (λ x. x ∷ in_branches (in_file_order fuel c) (kind_at c x)) (nodes_in c b)
-    (all-more (λ x. ((x < length c.nodes) × ((block_at c x == b) ≡ true)) ×
-    ((e : ℕ × Option ℕ) → In e (in_branches (λ d. (d, Some x) ∷ in_opening_order fuel c d) (kind_at c x)) → e.0 < n))
-    (λ x. AllByRecursion (λ y. block_at c y < n) (x ∷ in_branches (in_file_order fuel c) (kind_at c x)))
-    (λ x k. (subst (λ d. d < n) (sym (number-eq _ _ k.0.1)) l, inner x (kind_at c x) k.1 (λ d m p. blocks-below n fuel c d m p))) (nodes_in c b)
-    (all-both (λ x. (x < length c.nodes) × ((block_at c x == b) ≡ true))
-    (λ x. (e : ℕ × Option ℕ) → In e (in_branches (λ d. (d, Some x) ∷ in_opening_order fuel c d) (kind_at c x)) → e.0 < n)
-    (nodes_in c b) (block-each c b) (below-each-opened (nodes_in c b) h)))
-  where
-    below-each-opened : (xs : List ℕ)
-        → ((e : ℕ × Option ℕ) → In e (flat_map (λ x. in_branches (λ d. (d, Some x) ∷ in_opening_order fuel c d) (kind_at c x)) xs) → e.0 < n)
-        → AllByRecursion (λ x. (e : ℕ × Option ℕ) → In e (in_branches (λ d. (d, Some x) ∷ in_opening_order fuel c d) (kind_at c x)) → e.0 < n) xs
-    below-each-opened [] k = tt
-    below-each-opened (x ∷ xs) k = (
-      (λ e m. k e (left-in e (in_branches (λ d. (d, Some x) ∷ in_opening_order fuel c d) (kind_at c x)) _ m)),
-      below-each-opened xs (λ e m. k e (right-in e (in_branches (λ d. (d, Some x) ∷ in_opening_order fuel c d) (kind_at c x)) _ m)),
-    )
-
-    inner : (x : ℕ) (k : Kind) → ((e : ℕ × Option ℕ) → In e (in_branches (λ d. (d, Some x) ∷ in_opening_order fuel c d) k) → e.0 < n)
-        → ((d : ℕ) → d < n → ((e : ℕ × Option ℕ) → In e (in_opening_order fuel c d) → e.0 < n)
-        → AllByRecursion (λ y. block_at c y < n) (in_file_order fuel c d))
-        → AllByRecursion (λ y. block_at c y < n) (in_branches (in_file_order fuel c) k)
-    inner x (Cond p y m) k ih =
-        all-append (λ z. block_at c z < n) (in_file_order fuel c y) (in_file_order fuel c m)
-        (ih y (k (y, Some x) (inl refl)) (λ e q. k e (left-in e ((y, Some x) ∷ in_opening_order fuel c y) ((m, Some x) ∷ in_opening_order fuel c m) (inr q))))
-        (ih m (k (m, Some x) (right-in (m, Some x) ((y, Some x) ∷ in_opening_order fuel c y) ((m, Some x) ∷ in_opening_order fuel c m) (inl refl)))
-        (λ e q. k e (right-in e ((y, Some x) ∷ in_opening_order fuel c y) ((m, Some x) ∷ in_opening_order fuel c m) (inr q))))
-    inner x k h ih = tt
+use Rattle.tam_word.proofs.Tests.{test-below, below-test}
 
 -- a node has a vertex at least
 one-vertex : (c : Code) (x : ℕ) → 0 < vertices_at c x
@@ -113,7 +72,9 @@ length-below (suc n) = let i = length-below n in omega (arith, length-append (be
 pub few-nodes : (codes : ℕ) (c : Code) → IsWritten codes c → length c.nodes < 1025
 few-nodes codes c written =
     let each = subst (λ xs. AllByRecursion (λ x. block_at c x < length c.owners) xs) written.nodes_in_order
-    (blocks-below (length c.owners) (length c.owners) c 0 (has-body codes c written) (λ e k. opened-below codes c written e.0 e.1 (inr k))) in
+    (in-each (λ x. block_at c x < length c.owners) (in_file_order (length c.owners) c 0)
+    (λ x k. blocks-below (length c.owners) (length c.owners) c 0 (has-body codes c written) (λ e m. opened-below codes c written e.0 e.1 (inr m)) x
+    (node-visited (length c.owners) c 0 x k))) in
     let pass = all-pass (λ x. nat_lt (block_at c x) (length c.owners)) (node_numbers c)
     (all-more (λ x. block_at c x < length c.owners) (λ x. nat_lt (block_at c x) (length c.owners) ≡ true) (λ x k. below-test _ _ k) (node_numbers c) each) in
     let many = all-blocks c (node_numbers c) (length c.owners) in

@@ -1,7 +1,7 @@
 -- Each state that a legal journal leaves has its reasons.
 use Rattle.std.proofs.Common.{◌≡◌, ℕ, zero, suc, ◌^◌, ◌+◌, ◌<◌, Bool, true, false, ◌==◌, ◌&&◌, not, List, [], ◌∷◌, ◌++◌, zip, Option, Some, None, is_none, length, slice_get, nat_lt, refl, sym, ap, ◌∙◌, arith, subst, inr, true≢false}
 use Rattle.std.specs.List.{AllByRecursion}
-use Rattle.tam_word.specs.Lists.{any_of, has, below}
+use Rattle.tam_word.specs.Lists.{any_of, below}
 use Rattle.tam_graph.specs.declared.kind.Kind.TheVariants.{Param}
 use Rattle.tam_graph.specs.Graphs.{Graph, code_of, kind_at, depth_at, node_where, is_param}
 use Rattle.tam_graph.specs.Accepted.{IsAccepted}
@@ -21,6 +21,7 @@ use Rattle.tam_flow.specs.JournalLaws.{IsJournal}
 use Rattle.tam_flow.specs.Reached.{IsThere}
 use Rattle.tam_word.proofs.Tests.{and-left, and-right, not-true, number-eq, test-below, below-test}
 use Rattle.tam_word.proofs.Each.{all-append, all-at_place, all-map, all-more, all-flat}
+use Rattle.tam_flow.proofs.ActivationLists.{entered-first}
 use Rattle.tam_flow.proofs.Growing.{grows-same}
 use Rattle.tam_flow.proofs.Justified.{IsMessage, IsSoundWorld, messages-later}
 use Rattle.tam_flow.proofs.CellChanges.{none-some, some-eq}
@@ -128,13 +129,6 @@ module _ (g : Graph) (args : List ℕ) (accepted : IsAccepted g) where
   main-there : g.main < length g.codes
   main-there = test-below g.main (length g.codes) accepted.has_main
 
-  only-body : (b : ℕ) → has (0 ∷ []) b ≡ true → 0 ≡ b
-  only-body b h = go (0 == b) refl
-    where
-      go : (d : Bool) → (0 == b) ≡ d → 0 ≡ b
-      go true e = number-eq 0 b e
-      go false e = absurd (true≢false (sym (rw (any_of, e) at h)))
-
   nothing : {a : ℕ} {l : List ℕ} → [] ≡ a ∷ l → ⊥
   nothing e = cc
 
@@ -158,7 +152,7 @@ module _ (g : Graph) (args : List ℕ) (accepted : IsAccepted g) where
           → Holds g args (Entered (path_of (opening g) i) b) × (b < length (the_code g (path_of (opening g) i)).owners)
       block i b e h =
           subst (λ j. Holds g args (Entered (path_of (opening g) j) b) × (b < length (the_code g (path_of (opening g) j)).owners)) (sym e)
-          (subst (λ d. Holds g args (Entered [] d) × (d < length (the_code g []).owners)) (only-body b (subst (λ j. has_entered (opening g) j b ≡ true) e h))
+          (subst (λ d. Holds g args (Entered [] d) × (d < length (the_code g []).owners)) (entered-first b (subst (λ j. has_entered (opening g) j b ≡ true) e h))
           (holds-by g args body_is_entered ((0, root_has_begun), tt), opened g.main main-there))
 
   argument-message : (k v : ℕ) → slice_get args k ≡ Some v → AllByRecursion (IsMessage g args (opening g)) (argument_message g (k, v))

@@ -8,11 +8,12 @@ use Rattle.tam_msgs.specs.declared.message.Message.TheVariants.{Word as Carry, C
 use Rattle.tam_msgs.specs.Messages.{outside}
 use Rattle.tam_split.specs.GraphPartitions.{Partitions, are_valid}
 use Rattle.tam_fire.specs.FiringRules.{Value, node_of}
-use Rattle.tam_flow.specs.Worlds.{ActivationState, or_activation, activation_at, its_code, word_among}
+use Rattle.tam_flow.specs.Worlds.{ActivationState, or_activation, activation_at, its_code}
 use Rattle.tam_flow.specs.Journals.{State}
 use Rattle.tam_flow.specs.Told.{path_of}
 use Rattle.tam_flow.specs.Reached.{IsThere, kind_of, depth_of, maker_of, IsTyped, Suits, Has}
 use Rattle.tam_word.proofs.Each.{all-at_place}
+use Rattle.tam_flow.proofs.ActivationLists.{word_among}
 use Rattle.tam_flow.proofs.Justified.{StandsFor, Means, IsMessage, depth_in}
 use Rattle.tam_flow.proofs.Deliveries.{some-below}
 use Rattle.tam_flow.proofs.Nodes.{right-depth}

@@ -11,7 +11,7 @@ use Rattle.tam_msgs.specs.Runs.{Report, result_line, text_of, line}
 use Rattle.tam_eval.specs.GraphRuns.{graph_told, graph_text}
 use Rattle.tam.specs.declared.usage_cause.UsageCause.{UsageCause}
 use Rattle.tam.specs.declared.usage_cause.UsageCause.TheVariants.{Words, Mode, Args, ArgsCount}
-use Rattle.tam.specs.Words.{Asked, Job, Usage, asked, second}
+use Rattle.tam.specs.Words.{Asked, Job, Usage, name_of}
 
 -- the most bytes of a graph's text
 abbrev pub most_bytes : ℕ
@@ -59,9 +59,9 @@ pub record Spells (bytes : List ℕ) (g : Graph) : Type 0 where
   pub accepted : IsAccepted g
   pub built : IsBuilt g
 
--- the words ask for the run of a graph on its arguments, and the bytes that are left of the file are its text
-pub record AsksRun (words : List (List ℕ)) (left : Option (List ℕ)) (g : Graph) (args : List ℕ) : Type 0 where
-  pub job : asked words ≡ Job (second words) args
+-- the run of a graph on arguments is asked for, and the bytes that are left of the file are the graph's text
+pub record AsksRun (ask : Asked) (left : Option (List ℕ)) (g : Graph) (args : List ℕ) : Type 0 where
+  pub job : ask ≡ Job (name_of ask) args
   pub bytes : List ℕ
   pub told : left ≡ Some bytes
   pub few : length bytes ≤ most_bytes
@@ -72,26 +72,26 @@ pub record AsksRun (words : List (List ℕ)) (left : Option (List ℕ)) (g : Gra
 abbrev pub run_of : Graph → List ℕ → Report
 run_of g args = graph_told g args [] usual_limits
 
--- by the words and by what is left of the file that they name, the status and the text that are answered
-pub data Answer (words : List (List ℕ)) (left : Option (List ℕ)) : ℕ → List ℕ → Type 0 where
+-- by what is asked and by what is left of the file, the status and the text that are answered
+pub data Answer (ask : Asked) (left : Option (List ℕ)) : ℕ → List ℕ → Type 0 where
   -- a fault of the words
-  usage : {cause : UsageCause} → asked words ≡ Usage cause → Answer words left 2 (usage_line cause)
+  usage : {cause : UsageCause} → ask ≡ Usage cause → Answer ask left 2 (usage_line cause)
   -- a read failed
-  not_read : {args : List ℕ} → asked words ≡ Job (second words) args → Answer words left 3 read_fault_line
+  not_read : {args : List ℕ} → ask ≡ Job (name_of ask) args → Answer ask left 3 read_fault_line
   -- the file holds too many bytes
-  too_long : {args bytes : List ℕ} → asked words ≡ Job (second words) args → left ≡ Some bytes → most_bytes < length bytes → Answer words left 1 too_long_line
+  too_long : {args bytes : List ℕ} → ask ≡ Job (name_of ask) args → left ≡ Some bytes → most_bytes < length bytes → Answer ask left 1 too_long_line
   -- it holds the text of no graph that is built
-  not_built : {args bytes : List ℕ} → asked words ≡ Job (second words) args → left ≡ Some bytes → length bytes ≤ most_bytes
-      → ((g : Graph) → ¬ Spells bytes g) → Answer words left 1 not_built_line
+  not_built : {args bytes : List ℕ} → ask ≡ Job (name_of ask) args → left ≡ Some bytes → length bytes ≤ most_bytes
+      → ((g : Graph) → ¬ Spells bytes g) → Answer ask left 1 not_built_line
   -- it holds one, whose `main` has another number of params
-  wrong_count : {g : Graph} {args bytes : List ℕ} → asked words ≡ Job (second words) args → left ≡ Some bytes → length bytes ≤ most_bytes
-      → Spells bytes g → length args ≢ params_of (code_of g g.main) → Answer words left 2 (usage_line ArgsCount)
+  wrong_count : {g : Graph} {args bytes : List ℕ} → ask ≡ Job (name_of ask) args → left ≡ Some bytes → length bytes ≤ most_bytes
+      → Spells bytes g → length args ≢ params_of (code_of g g.main) → Answer ask left 2 (usage_line ArgsCount)
   -- it holds one, which is run
-  ran : {g : Graph} {args : List ℕ} → AsksRun words left g args → Answer words left 0 (graph_text g args [] usual_limits)
+  ran : {g : Graph} {args : List ℕ} → AsksRun ask left g args → Answer ask left 0 (graph_text g args [] usual_limits)
   -- memory was wanted before a run
-  no_memory : Answer words left 11 no_memory_line
+  no_memory : Answer ask left 11 no_memory_line
   -- or in a run, behind the lines of its first results
-  no_memory_in_run : {g : Graph} {args : List ℕ} {front rest : List (ℕ × ℕ)} → AsksRun words left g args → (run_of g args).printed ≡ front ++ rest
-      → Answer words left 11 (flat_map result_line front ++ no_memory_line)
+  no_memory_in_run : {g : Graph} {args : List ℕ} {front rest : List (ℕ × ℕ)} → AsksRun ask left g args → (run_of g args).printed ≡ front ++ rest
+      → Answer ask left 11 (flat_map result_line front ++ no_memory_line)
   -- of a file whose content isn't told nothing more is said
-  untold : {args text : List ℕ} {status : ℕ} → asked words ≡ Job (second words) args → left ≡ None → Answer words left status text
+  untold : {args text : List ℕ} {status : ℕ} → ask ≡ Job (name_of ask) args → left ≡ None → Answer ask left status text

@@ -54,7 +54,7 @@ asked (mode ∷ name ∷ []) = asked_by mode name []
 asked (mode ∷ name ∷ option ∷ []) = elim (same_bytes (take 7 option) args_option) [ true ↦ asked_by mode name (drop 7 option) | false ↦ Usage Words ]
 asked _ = Usage Words
 
--- the second word, or none
-abbrev pub second : List (List ℕ) → List ℕ
-second (mode ∷ name ∷ more) = name
-second _ = []
+-- the file that is asked for, by its name
+abbrev pub name_of : Asked → List ℕ
+name_of (Job name args) = name
+name_of (Usage cause) = []

@@ -64,6 +64,7 @@ module _ (g : Graph) (acc : IsAccepted g) (args : List ℕ) (s : State) (all : A
   here : IsThere s.world i × (is_enabled g s.world i x ≡ true)
   here = follows.stands.ready_enabled i x (inl refl)
 
+  -- the node that fires is enabled
   enabled : Enabled g s.world i x
   enabled = is_enabled-parts g s.world i x here.1
 

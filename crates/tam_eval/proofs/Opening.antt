@@ -39,6 +39,7 @@ module _ (g : Graph) (args : List ℕ) where
   none-there : (i : ℕ) → IsThere nothing_begun i → ⊥
   none-there i h = let l : i < 0 = h in omega arith
 
+  -- at the opening nothing has run
   nothing-runs : RunsStand g nothing
   nothing-runs = record {
     ran_there = λ i b k h. absurd (true≢false (sym h));

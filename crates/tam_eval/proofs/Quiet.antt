@@ -58,6 +58,7 @@ is_cond_kind (Cond p y n) = true
 is_cond_kind _ = false
 
 module _ (g : Graph) (acc : IsAccepted g) (n : ℕ) (l : n < length g.codes) where
+  -- the code of the activation
   abbrev c : Code
   c = code_of g n
 

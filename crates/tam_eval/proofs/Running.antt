@@ -225,6 +225,7 @@ module _ (g : Graph) (acc : IsAccepted g) (args : List ℕ) (limits : Limits) (s
     after-sized e p = let a = sized.activations in let b = sized.arrays in
         delivered-sized s.world limits.frames (made + 1) m a (omega arith) (begin-room m e)
 
+    -- within the budget, activations and arrays stay few
     few-after : (d : Delivery) → (made == limits.budget) ≡ false → SizedAfter limits.frames (made + 1) d → FewAfter d
     few-after (Went e) p z =
         let n = number-differs made limits.budget p in

@@ -78,6 +78,7 @@ abbrev is_arg_kind : Kind → Bool
 is_arg_kind (Arg f k a) = true
 is_arg_kind _ = false
 
+-- an arg names a call
 arg-call : (g : Graph) → IsAccepted g → (n x f k a : ℕ) → n < length g.codes → kind_at (code_of g n) x ≡ Arg f k a → (d : ℕ) ×
     (kind_at (code_of g n) f ≡ Call d)
 arg-call g acc n x f k a l e =

@@ -26,6 +26,7 @@ access-there c x h = go (slice_get c.nodes x) refl h
     go None e k = absurd k
     go (Some n) e k = some-below c.nodes x e
 
+-- a store is an access
 store-access : (k : Kind) → IsStore k → IsAccess k
 store-access (Store a i b) h = tt
 store-access k h = absurd h

@@ -1,19 +1,24 @@
 -- A firing of a node whose block is entered and whose operands have words leaves a world that has its reasons, and sends messages that have theirs.
-use Rattle.std.proofs.Common.{◌≡◌, ℕ, zero, suc, ◌<◌, Bool, true, false, ◌==◌, ◌&&◌, ◌||◌, not, List, [], ◌∷◌, ◌++◌, map, flat_map, Option, Some, None, length, slice_get, nat_lt, refl, sym, ap, ◌∙◌, arith, tests, subst, inl, inr, ⊎_elim, true≢false}
+use Rattle.std.proofs.Common.{◌≡◌, ℕ, zero, suc, ◌<◌, Bool, true, false, ◌==◌, ◌&&◌, ◌||◌, not, List, [], ◌∷◌, ◌++◌, map, flat_map, Option, Some, None, length}
+use Rattle.std.proofs.Common.{slice_get, nat_lt, refl, sym, ap, ◌∙◌, arith, tests, subst, inl, inr, ⊎_elim, true≢false}
 use Rattle.std.specs.List.{AllByRecursion}
 use Rattle.tam_word.specs.Words.{meaning}
 use Rattle.tam_word.specs.declared.op.Op.{Op}
 use Rattle.tam_graph.specs.Written.{is_line, is_operand, is_call_node, is_cond_node}
 use Rattle.tam_graph.specs.declared.kind.Kind.{Kind}
-use Rattle.tam_graph.specs.declared.kind.Kind.TheVariants.{Param, Const, Op as Operate, Seq, Call, Arg, Ret, Give, Alloc, Fetch, Store, Cond, Switch, Merge, Enter, Leave}
+use Rattle.tam_graph.specs.declared.kind.Kind.TheVariants.{Param, Const, Op as Operate, Seq, Call, Arg, Ret, Give, Alloc, Fetch, Store, Cond, Switch, Merge}
+use Rattle.tam_graph.specs.declared.kind.Kind.TheVariants.{Enter, Leave}
 use Rattle.tam_msgs.specs.declared.message.Message.{Message}
 use Rattle.tam_msgs.specs.declared.message.Message.TheVariants.{Word as Carry, Frame as Begin, Cells as Make, Fetch as Ask_cell, Store as Put_cell}
 use Rattle.tam_msgs.specs.Messages.{outside, site}
-use Rattle.tam_graph.specs.Graphs.{Graph, Code, code_of, kind_at, block_at, depth_at, operands_of, is_outlet, callee_of, chosen_branch, branch_of_kind, test_of, test_of_kind, owner_of, node_where, node_in, node_numbers, is_param, is_ret, is_merge, is_enter}
+use Rattle.tam_graph.specs.Graphs.{Graph, Code, code_of, kind_at, block_at, depth_at, operands_of, is_outlet, callee_of, chosen_branch, branch_of_kind, test_of}
+use Rattle.tam_graph.specs.Graphs.{test_of_kind, owner_of, node_where, node_in, node_numbers, is_param, is_ret, is_merge, is_enter}
 use Rattle.tam_graph.specs.Accepted.{IsAccepted, has_right_depth, all_depths, both_enter_depth, enters_depth, gives_depth}
-use Rattle.tam_fire.specs.FiringRules.{Value, Word, Activation, Array, Val, Fired, Entered, Holds, values, node_of, block_of, code_at, the_code, const_gives, op_gives, seq_gives, outlet_fires, arg_comes, result_comes, cond_enters, switch_comes, out_comes}
+use Rattle.tam_fire.specs.FiringRules.{Value, Word, Activation, Array, Val, Fired, Entered, Holds, values, node_of, block_of, code_at, the_code, const_gives}
+use Rattle.tam_fire.specs.FiringRules.{op_gives, seq_gives, outlet_fires, arg_comes, result_comes, cond_enters, switch_comes, out_comes}
 use Rattle.tam_fire.proofs.Following.{holds-by}
-use Rattle.tam_flow.specs.Worlds.{World, changes, sends_only, got, entered, all_got, activation_at, its_code, word_of, words_of, result_message, merges_of, firing_of, fired_with, fired}
+use Rattle.tam_flow.specs.Worlds.{World, changes, sends_only, got, entered, all_got, activation_at, its_code, word_of, words_of, result_message, merges_of}
+use Rattle.tam_flow.specs.Worlds.{firing_of, fired_with, fired}
 use Rattle.tam_flow.specs.Told.{IsNumber, path_of}
 use Rattle.tam_flow.specs.Reached.{IsThere}
 use Rattle.tam_word.proofs.Tests.{and-left, and-right, number-eq, test-below, below-test}
@@ -23,7 +28,8 @@ use Rattle.tam_flow.proofs.Growing.{grows-same, grows-on, grows-got, grows-enter
 use Rattle.tam_flow.proofs.Justified.{StandsFor, IsNoCall, IsValue, IsPutBy, IsMessage, IsSoundWorld, depth_in, value-later}
 use Rattle.tam_flow.proofs.Changes.{BlockHolds, sound-got, sound-entered}
 use Rattle.tam_flow.proofs.Deliveries.{IsSoundEffect}
-use Rattle.tam_flow.proofs.Nodes.{operand, call-operand, cond-operand, where-each, in-each, all-depths, enters-depth, right-depth, line, is-param, is-ret, is-merge, is-enter}
+use Rattle.tam_flow.proofs.Nodes.{operand, call-operand, cond-operand, where-each, in-each, all-depths, enters-depth, right-depth, line, is-param, is-ret}
+use Rattle.tam_flow.proofs.Nodes.{is-merge, is-enter}
 use Rattle.tam_graph.proofs.BranchBlocks.{branches-below}
 
 -- the nodes have the words, in order
@@ -33,9 +39,11 @@ HaveThese w i (x ∷ xs) (v ∷ vs) = (word_of w i x ≡ v ∷ []) × HaveThese 
 HaveThese w i [] (v ∷ vs) = ⊥
 HaveThese w i (x ∷ xs) [] = ⊥
 
+-- an empty list has no head
 cons-nil : {A : Type 0} {a : A} {l : List A} → [] ≡ a ∷ l → ⊥
 cons-nil q = cc
 
+-- equal lists have equal heads
 head-is : {A : Type 0} {a b : A} {l m : List A} → a ∷ l ≡ b ∷ m → a ≡ b
 head-is q = cc
 
@@ -60,6 +68,7 @@ abbrev pub calls : Kind → Bool
 calls (Call d) = true
 calls _ = false
 
+-- a depth above 0 is one more than a depth
 some-depth : (d : ℕ) → 0 < d → (e : ℕ) × (d ≡ suc e)
 some-depth zero l = absurd (omega arith)
 some-depth (suc e) l = (e, refl)
@@ -68,6 +77,7 @@ some-depth (suc e) l = (e, refl)
 given : (k d e : ℕ) → (not (k == k) || (d == e)) ≡ true → e ≡ d
 given k d e h = let same : (k == k) ≡ true = grind (arith, tests) in sym (number-eq d e (rw same at h))
 
+-- a node that fails the test of calls is no call
 pub no-call : (d k : Kind) → d ≡ k → calls k ≡ false → IsNoCall d
 no-call d k e h c f = true≢false (sym (ap calls f) ∙ ap calls e ∙ h)
 
@@ -85,15 +95,19 @@ module _ (g : Graph) (args : List ℕ) where
       record { world = rest.world; grows = grows-on w (got w i x v) (all_got (got w i x v) i xs v) grows rest.grows; sends = tt }
 
   module _ (accepted : IsAccepted g) (w : World) (sound : IsSoundWorld g args w) (i : ℕ) (there : IsThere w i) where
+    -- the code of its path is its code
     path-code : code_at g (path_of w i) ≡ (activation_at w i).code
     path-code = sound.path_codes i there
 
+    -- a node of its path does what its node does
     node : (x : ℕ) → node_of g (path_of w i) x ≡ kind_at (its_code g w i) x
     node x = ap (λ m. kind_at (code_of g m) x) path-code
 
+    -- and has its depth
     depth : (x : ℕ) → depth_in g (path_of w i) x ≡ depth_at (its_code g w i) x
     depth x = ap (λ m. depth_at (code_of g m) x) path-code
 
+    -- which is right for what it does
     right : (x : ℕ) (k : Kind) → x < length (its_code g w i).nodes → kind_at (its_code g w i) x ≡ k → has_right_depth g (its_code g w i) x k ≡ true
     right x k l e = right-depth g accepted (activation_at w i).code (sound.codes i there) x k l e
 
@@ -128,13 +142,16 @@ module _ (g : Graph) (args : List ℕ) where
     a-value x u v k e none stands holds =
         record { value = v; means = inr (no-call _ k (node x ∙ e) none, subst (λ d. StandsFor g w d u v) (sym (depth x)) stands); holds = holds }
 
+    -- at depth 0 a word stands for itself
     flat-word : (x u : ℕ) → depth_at (its_code g w i) x ≡ 0 → StandsFor g w (depth_at (its_code g w i) x) u (Word u)
     flat-word x u e = subst (λ d. StandsFor g w d u (Word u)) (sym e) refl
 
     module _ (x : ℕ) (inside : x < length (its_code g w i).nodes) (open_block : Holds g args (Entered (path_of w i) (block_at (its_code g w i) x))) where
+      -- the block of the node is entered, by its path
       here : Holds g args (Entered (path_of w i) (block_of g (path_of w i) x))
       here = subst (λ b. Holds g args (Entered (path_of w i) b)) (sym (ap (λ m. block_at (code_of g m) x) path-code)) open_block
 
+      -- an outlet fires with values of its operands
       fires : (k : Kind) (vs : List Value) → kind_at (its_code g w i) x ≡ k → is_outlet k ≡ true → length vs ≡ length (operands_of (its_code g w i) k)
           → AllByRecursion (Holds g args) (values (path_of w i) (operands_of (its_code g w i) k) vs) → Holds g args (Fired (path_of w i) x vs)
       fires k vs e outlet long operands =
@@ -144,6 +161,7 @@ module _ (g : Graph) (args : List ℕ) where
           ops : operands_of (the_code g (path_of w i)) (node_of g (path_of w i) x) ≡ operands_of (its_code g w i) k
           ops = ap (λ m. operands_of (code_of g m) (kind_at (code_of g m) x)) path-code ∙ ap (λ d. operands_of (its_code g w i) d) e
 
+      -- the node's line names what it may name
       its_line : (k : Kind) → kind_at (its_code g w i) x ≡ k → is_line (length g.codes) (its_code g w i) k ≡ true
       its_line k e = line g accepted (activation_at w i).code (sound.codes i there) x k inside e
 
@@ -162,11 +180,13 @@ module _ (g : Graph) (args : List ℕ) where
       some-sent : (ms : List Message) → AllByRecursion (IsMessage g args w) ms → IsSoundEffect g args w (sends_only w ms)
       some-sent ms h = record { world = sound; grows = grows-same w; sends = h }
 
+      -- a const gives its word
       fire-const : (v : ℕ) → kind_at (its_code g w i) x ≡ Const v → IsSoundEffect g args w (changes (got w i x v))
       fire-const v e =
           one-word v (Word v) (Const v) e refl (flat-word x v (number-eq _ _ (right x (Const v) inside e)))
           (holds-by g args (const_gives (node x ∙ e)) (here, tt))
 
+      -- an operator gives what it means of its operands' words
       fire-operate : (o : Op) (l r u v : ℕ) → kind_at (its_code g w i) x ≡ Operate o l r → HaveThese w i (l ∷ r ∷ []) (u ∷ v ∷ [])
           → IsSoundEffect g args w (changes (got w i x (meaning o u v)))
       fire-operate o l r u v e h =
@@ -181,6 +201,7 @@ module _ (g : Graph) (args : List ℕ) where
             ),
           ))
 
+      -- a seq gives its first operand's word
       fire-seq : (l r u v : ℕ) → kind_at (its_code g w i) x ≡ Seq l r → HaveThese w i (l ∷ r ∷ []) (u ∷ v ∷ []) → IsSoundEffect g args w (changes (got w i x u))
       fire-seq l r u v e h =
           let ops = all-of_each (is_operand (its_code g w i)) (l ∷ r ∷ []) (its_line (Seq l r) e) in
@@ -189,6 +210,7 @@ module _ (g : Graph) (args : List ℕ) where
           one-word u a.0 (Seq l r) e refl (subst (λ d. StandsFor g w d u a.0) (sym (number-eq _ _ (right x (Seq l r) inside e))) a.1)
           (holds-by g args (seq_gives {a = a.0} {b = b.0} (node x ∙ e)) (here, (a.2, (b.2, tt))))
 
+      -- a call wishes for an activation
       fire-call : (d : ℕ) → kind_at (its_code g w i) x ≡ Call d → IsSoundEffect g args w (sends_only w (Begin d i x ∷ []))
       fire-call d e =
           some-sent (Begin d i x ∷ []) (
@@ -203,6 +225,7 @@ module _ (g : Graph) (args : List ℕ) where
             tt,
           )
 
+      -- an alloc wishes for an array
       fire-alloc : (a n : ℕ) → kind_at (its_code g w i) x ≡ Alloc a → HaveThese w i (a ∷ []) (n ∷ []) → IsSoundEffect g args w (sends_only w (Make n i x ∷ []))
       fire-alloc a n e h =
           let d = right x (Alloc a) inside e in
@@ -223,6 +246,7 @@ module _ (g : Graph) (args : List ℕ) where
             tt,
           )
 
+      -- a fetch asks for a cell
       fire-fetch : (a j u v : ℕ) → kind_at (its_code g w i) x ≡ Fetch a j → HaveThese w i (a ∷ j ∷ []) (u ∷ v ∷ [])
           → IsSoundEffect g args w (sends_only w (Ask_cell u v i x (site (activation_at w i).code x) ∷ []))
       fire-fetch a j u v e h =
@@ -252,6 +276,7 @@ module _ (g : Graph) (args : List ℕ) where
             tt,
           )
 
+      -- what a store puts has its reason
       pub put-by : (a j b t u v : ℕ) → kind_at (its_code g w i) x ≡ Store a j b → HaveThese w i (a ∷ j ∷ b ∷ []) (t ∷ u ∷ v ∷ [])
           → IsPutBy g args w i x t u v (site (activation_at w i).code x)
       put-by a j b t u v e h =
@@ -281,10 +306,12 @@ module _ (g : Graph) (args : List ℕ) where
                 (subst (λ y. Holds g args (Val (path_of w i) a y)) stands.4 array.2, (index, (value.2, tt)));
           }
 
+      -- so a store sends it
       fire-store : (a j b t u v : ℕ) → kind_at (its_code g w i) x ≡ Store a j b → HaveThese w i (a ∷ j ∷ b ∷ []) (t ∷ u ∷ v ∷ [])
           → IsSoundEffect g args w (sends_only w (Put_cell t u v (site (activation_at w i).code x) ∷ []))
       fire-store a j b t u v e h = some-sent (Put_cell t u v (site (activation_at w i).code x) ∷ []) ((i, x, put-by a j b t u v e h), tt)
 
+      -- an arg sends its word to the param of its place
       fire-arg : (f k a v p : ℕ) → kind_at (its_code g w i) x ≡ Arg f k a → HaveThese w i (a ∷ f ∷ []) (v ∷ p ∷ [])
           → IsSoundEffect g args w (sends_only w (map (λ y. Carry p y v) (node_where (code_of g (callee_of (its_code g w i) f)) (is_param k))))
       fire-arg f k a v p e h =
@@ -337,6 +364,7 @@ module _ (g : Graph) (args : List ℕ) where
                 },
               )
 
+      -- a give sends its word to the ret of its place, or to the outside
       fire-give : (k a v : ℕ) → kind_at (its_code g w i) x ≡ Give k a → HaveThese w i (a ∷ []) (v ∷ [])
           → IsSoundEffect g args w (sends_only w (result_message g w i k v))
       fire-give k a v e h = go ((activation_at w i).caller == outside) refl
@@ -403,6 +431,7 @@ module _ (g : Graph) (args : List ℕ) where
               (node_where (its_code g w (activation_at w i).caller) (is_ret (activation_at w i).call k))
               (where-each (its_code g w (activation_at w i).caller) (is_ret (activation_at w i).call k)))))
 
+      -- a cond enters the branch that its word chooses
       fire-cond : (p y n v : ℕ) → kind_at (its_code g w i) x ≡ Cond p y n → HaveThese w i (p ∷ []) (v ∷ [])
           → IsSoundEffect g args w (changes (entered w i (chosen_branch (its_code g w i) x v)))
       fire-cond p y n v e h = record {
@@ -433,6 +462,7 @@ module _ (g : Graph) (args : List ℕ) where
             subst (λ m. chosen_branch (code_of g m) x v < length (code_of g m).owners) (sym path-code) small,
           )
 
+      -- a switch sends its word to the enter of its place in the branch chosen
       fire-switch : (d k a u v : ℕ) → kind_at (its_code g w i) x ≡ Switch d k a → HaveThese w i (test_of (its_code g w i) d ∷ a ∷ []) (u ∷ v ∷ [])
           → IsSoundEffect g args w (changes (all_got w i (node_in (its_code g w i) (chosen_branch (its_code g w i) d u) (is_enter k)) v))
       fire-switch d k a u v e h =
@@ -486,6 +516,7 @@ module _ (g : Graph) (args : List ℕ) where
               (holds-by g args (switch_comes {w = u} {v = value.0} (node x ∙ e) (node y ∙ kind)
               (subst (λ m. block_at (code_of g m) y ≡ chosen_branch (code_of g m) d u) (sym path-code) block)) (sent, tt))
 
+      -- a leave sends its word to the merge of its place
       fire-leave : (k a v : ℕ) → kind_at (its_code g w i) x ≡ Leave k a → HaveThese w i (a ∷ []) (v ∷ [])
           → IsSoundEffect g args w (changes (all_got w i (merges_of (its_code g w i) k (owner_of (its_code g w i) (block_at (its_code g w i) x))) v))
       fire-leave k a v e h =

@@ -128,7 +128,8 @@ module _ (g : Graph) (Just : ℕ → ℕ → Type 0) (w : World) where
 
       block : (j b : ℕ) → ChangedCases v i f j → has_entered v j b ≡ true → has_entered (changed_world v i f) j b ≡ true
       block j b (inl e) h = ap (λ o. was_entered (or_activation o).entered b) e ∙ h
-      block j b (inr (q, (a, e, d))) h = ap (λ o. was_entered (or_activation o).entered b) d ∙ k.block a b (sym (ap (λ o. was_entered (or_activation o).entered b) e) ∙ h)
+      block j b (inr (q, (a, e, d))) h =
+          ap (λ o. was_entered (or_activation o).entered b) d ∙ k.block a b (sym (ap (λ o. was_entered (or_activation o).entered b) e) ∙ h)
 
       new : (j y : ℕ) → ChangedCases v i f j → has_word (changed_world v i f) j y ≡ true → (has_word w j y ≡ true) ⊎ IsNew j y
       new j y (inl e) h = m.words_new j y (sym (ap (λ o. act_has (or_activation o) y) e) ∙ h)
@@ -206,14 +207,17 @@ param-inlet : (k : ℕ) (d : Kind) → is_param k d ≡ true → is_inlet d ≡ 
 param-inlet k (Param j) h = refl
 param-inlet k d h = absurd (true≢false (sym h))
 
+-- so does the test of rets
 ret-inlet : (f k : ℕ) (d : Kind) → is_ret f k d ≡ true → is_inlet d ≡ true
 ret-inlet f k (Ret e j) h = refl
 ret-inlet f k d h = absurd (true≢false (sym h))
 
+-- that of merges
 merge-inlet : (c k : ℕ) (d : Kind) → is_merge c k d ≡ true → is_inlet d ≡ true
 merge-inlet c k (Merge e j) h = refl
 merge-inlet c k d h = absurd (true≢false (sym h))
 
+-- and that of enters
 enter-inlet : (k : ℕ) (d : Kind) → is_enter k d ≡ true → is_inlet d ≡ true
 enter-inlet k (Enter j) h = refl
 enter-inlet k d h = absurd (true≢false (sym h))

@@ -1,5 +1,6 @@
 -- Each wish is sent once, paths tell activations apart, a filled cell was stored by a message that arrived, and a second store is of another instance.
-use Rattle.std.proofs.Common.{◌≡◌, ℕ, zero, suc, ◌^◌, ◌<◌, Bool, true, false, ◌==◌, ◌&&◌, not, List, [], ◌∷◌, ◌++◌, map, zip, Option, Some, None, is_none, unwrap_or, length, nat_lt, slice_get, refl, sym, ap, ap₂, ◌∙◌, arith, tests, subst, inl, inr, ◌⊎◌, ⊎_elim, true≢false}
+use Rattle.std.proofs.Common.{◌≡◌, ℕ, zero, suc, ◌^◌, ◌<◌, Bool, true, false, ◌==◌, ◌&&◌, not, List, [], ◌∷◌, ◌++◌, map, zip, Option, Some, None, is_none}
+use Rattle.std.proofs.Common.{unwrap_or, length, nat_lt, slice_get, refl, sym, ap, ap₂, ◌∙◌, arith, tests, subst, inl, inr, ◌⊎◌, ⊎_elim, true≢false}
 use Rattle.std.specs.List.{AllByRecursion}
 use Rattle.std.proofs.lemmas.List.{length-append}
 use Rattle.tam_word.specs.Lists.{any_of, has, below}
@@ -9,12 +10,15 @@ use Rattle.tam_msgs.specs.Messages.{outside}
 use Rattle.tam_istr.specs.Cells.{Filled}
 use Rattle.tam_graph.specs.Graphs.{Graph, code_of, block_at, node_where, is_param}
 use Rattle.tam_graph.specs.Accepted.{IsAccepted}
+use Rattle.tam_graph.specs.Edges.{Edges}
 use Rattle.tam_split.specs.Blocks.{block_graph, vertex_at}
 use Rattle.tam_split.specs.Partitions.{class_at}
 use Rattle.tam_split.specs.GraphPartitions.{Partitions, parts_of, are_valid, firing_order}
 use Rattle.tam_fire.specs.FiringRules.{Path}
-use Rattle.tam_flow.specs.Worlds.{World, Effect, Delivery, Went, Printed, Faulted, Fault, Second_store, Outside_cells, or_activation, activation_at, its_code, has_entered, begun, delivered, opening, argument_message}
-use Rattle.tam_flow.specs.Journals.{State, Event, Run, Deliver, initial, has_run, class_fired, block_of_act, parts_of_act, or_message, after_delivery, deliver_all, after_event, may_run, may_arrive, may_follow, is_legal_from, state_from, state_after}
+use Rattle.tam_flow.specs.Worlds.{World, Effect, Delivery, Went, Printed, Faulted, Fault, Second_store, Outside_cells, or_activation, activation_at, its_code}
+use Rattle.tam_flow.specs.Worlds.{has_entered, begun, delivered, opening, argument_message}
+use Rattle.tam_flow.specs.Journals.{State, Event, Run, Deliver, initial, has_run, class_fired, block_of_act, parts_of_act, or_message, after_delivery}
+use Rattle.tam_flow.specs.Journals.{deliver_all, after_event, may_run, may_arrive, may_follow, is_legal_from, state_from, state_after}
 use Rattle.tam_flow.specs.Told.{path_of}
 use Rattle.tam_flow.specs.JournalLaws.{IsJournal}
 use Rattle.tam_flow.specs.Reached.{IsThere, cell_at}
@@ -29,9 +33,11 @@ use Rattle.tam_flow.proofs.Lengths.{size, size-each, size-from}
 use Rattle.tam_flow.proofs.ClassRuns.{order-each, vertex-each}
 use Rattle.tam_flow.proofs.Pairs.{Pairs, pairs-append, pairs-at, fires-once, class-once}
 use Rattle.tam_flow.proofs.Acyclic.{order-distinct, block-acyclic}
-use Rattle.tam_flow.proofs.Tags.{Tag, asks, IsSentBy, TagApart, sent_by-later, tagged_with, tagged-same, map-append, words-apart, words-only, word-sent, IsOf, IsTaggedRun, done_after, done-in, tagged-each}
+use Rattle.tam_flow.proofs.Tags.{Tag, asks, IsSentBy, TagApart, sent_by-later, tagged_with, tagged-same, map-append, words-apart, words-only, word-sent, IsOf}
+use Rattle.tam_flow.proofs.Tags.{IsTaggedRun, done_after, done-in, tagged-each}
 use Rattle.tam_flow.proofs.Deliverings.{ComesOf, comes, arrays-run}
-use Rattle.tam_flow.proofs.SoundStates.{IsSoundState, IsRunnable, runnable, no-fault, opened, run-block, run-within, order-ready, run-effect, sound-event, sound-initial}
+use Rattle.tam_flow.proofs.SoundStates.{IsSoundState, IsRunnable, runnable, no-fault, opened, run-block, run-within, order-ready, run-effect, sound-event}
+use Rattle.tam_flow.proofs.SoundStates.{sound-initial}
 use Rattle.tam_word.proofs.Members.{In}
 
 -- the vertex that fires for node x of activation i is in a class that ran
@@ -88,6 +94,7 @@ tag-at [] n m e = absurd (none-some e)
 tag-at (t ∷ ts) zero m e = (t, refl, some-eq e)
 tag-at (t ∷ ts) (suc n) m e = tag-at ts n m e
 
+-- what has arrived has arrived once one more has
 arrived-more : (m : ℕ) (xs : List ℕ) (n : ℕ) → has xs n ≡ true → has (m ∷ xs) n ≡ true
 arrived-more m xs n h = go (m == n) refl
   where
@@ -95,15 +102,19 @@ arrived-more m xs n h = go (m == n) refl
     go true e = rw (any_of, e) refl
     go false e = rw (any_of, e) h
 
+-- and that one has
 arrived-now : (m : ℕ) (xs : List ℕ) → has (m ∷ xs) m ≡ true
 arrived-now m xs = let e : (m == m) ≡ true = grind (arith, tests) in rw (any_of, e) refl
 
+-- equal paths have equal calls in front and equal paths behind
 pub cons-tail : {x y : ℕ} {p q : Path} → x ∷ p ≡ y ∷ q → (x ≡ y) × (p ≡ q)
 cons-tail e = (cc, cc)
 
+-- the root's path has no call in front
 pub nil-cons : {x : ℕ} {p : Path} → [] ≡ x ∷ p → ⊥
 nil-cons e = cc
 
+-- words with their sender ask for nothing
 asked-words : (i x : ℕ) (ms : List Message) → AllByRecursion (λ m. asks m ≡ false) ms → AllByRecursion (λ t. asks t.0 ≡ false) (tagged_with i x ms)
 asked-words i x ms h = all-map (λ t. asks t.0 ≡ false) (λ m. (m, i, x)) ms h
 
@@ -120,6 +131,7 @@ selves (x ∷ xs) = (inl refl, all-more (λ z. In z xs) (λ z. In z (x ∷ xs)) 
 module _ (g : Graph) (args : List ℕ) (accepted : IsAccepted g) (all : Partitions) where
   -- ---- the beginning
 
+  -- the arguments are words
   initial-words : AllByRecursion (λ m. asks m ≡ false) (initial g args).sent
   initial-words = all-flat (λ m. asks m ≡ false) (argument_message g) (zip (below (length args)) args) (each (zip (below (length args)) args))
     where
@@ -127,6 +139,7 @@ module _ (g : Graph) (args : List ℕ) (accepted : IsAccepted g) (all : Partitio
       each [] = tt
       each (e ∷ es) = (words-only 0 e.1 (node_where (code_of g g.main) (is_param e.0)), each es)
 
+  -- at the beginning each wish was sent once, since there is none
   pub once-initial : IsOnceState g args all (initial g args)
   once-initial = record {
     tags = tagged_with 0 0 (initial g args).sent;
@@ -148,6 +161,7 @@ module _ (g : Graph) (args : List ℕ) (accepted : IsAccepted g) (all : Partitio
   -- ---- a class runs
 
   module _ (valid : are_valid g all ≡ true) (s : State) (sound : IsSoundState g args s) (once : IsOnceState g args all s) where
+    -- what has fired has fired later
     fired-later : (v : State) → Grows s.world v.world → ((i b c : ℕ) → has_run s i b c ≡ true → has_run v i b c ≡ true) → (i x : ℕ) → HasFired g all s i x
         → HasFired g all v i x
     fired-later v grows more i x h = record {
@@ -189,6 +203,7 @@ module _ (g : Graph) (args : List ℕ) (accepted : IsAccepted g) (all : Partitio
                   ∙ ap (λ p. h.3 ∷ p) (sym (grows.path h.2 there)),
             )
 
+    -- where a world has grown by no activation, paths still tell them apart
     paths-later : (v : World) → Grows s.world v → size v ≡ size s.world → (i j : ℕ) → IsThere v i → IsThere v j → path_of v i ≡ path_of v j → i ≡ j
     paths-later v grows same i j t u e =
         let a : IsThere s.world i = subst (λ n. i < n) same t in
@@ -220,6 +235,7 @@ module _ (g : Graph) (args : List ℕ) (accepted : IsAccepted g) (all : Partitio
             → (vertex_at (block_graph (code_of g n) d) y).node ≡ (vertex_at (block_graph (code_of g n) b) z).node → In y (class_at (parts_of all n d) e)
             → e ≡ c) (sym w) base
 
+    -- a run sends each of its wishes once
     once-run : (i b c : ℕ) → s.fault ≡ None → IsRunnable g all s i b c → IsOnceState g args all (after_event g all s (Run i b c))
     once-run i b c whole run = record {
       tags = once.tags ++ tagged.tags;
@@ -296,9 +312,11 @@ module _ (g : Graph) (args : List ℕ) (accepted : IsAccepted g) (all : Partitio
 
         in-order : (y : ℕ) → In y (done_after [] (firing_order (block_of_act g s i b).edges (class_at (parts_of_act g all s i b) c)))
             → In y (class_at (parts_of_act g all s i b) c)
-        in-order y h = ⊎_elim (λ k. absurd k) (λ k. each-in (λ z. In z (class_at (parts_of_act g all s i b) c)) (firing_order (block_of_act g s i b).edges (class_at (parts_of_act g all s i b) c)) y (order-each (λ z. In z (class_at (parts_of_act g all s i b) c)) (block_of_act g s i b).edges
-            (class_at (parts_of_act g all s i b) c) (selves (class_at (parts_of_act g all s i b) c))) k)
-            (done-in [] (firing_order (block_of_act g s i b).edges (class_at (parts_of_act g all s i b) c)) y h)
+        in-order y h =
+            let class : List ℕ = class_at (parts_of_act g all s i b) c in
+            let edges : Edges = (block_of_act g s i b).edges in
+            let each = order-each (λ z. In z class) edges class (selves class) in
+            ⊎_elim (λ k. absurd k) (λ k. each-in (λ z. In z class) (firing_order edges class) y each k) (done-in [] (firing_order edges class) y h)
 
         new-fired : (t : Tag) → IsOf (block_of_act g s i b) i
             (done_after [] (firing_order (block_of_act g s i b).edges (class_at (parts_of_act g all s i b) c))) t
@@ -352,10 +370,12 @@ module _ (g : Graph) (args : List ℕ) (accepted : IsAccepted g) (all : Partitio
             ⊎_elim (λ h. h) (λ h. absurd (⊎_elim (λ f. f at au c.0 c.1) (λ f. f au at (sym c.0) (sym c.1)) h))
             (pairs-at TagApart once.tags m n t.0 u.0 once.apart t.1 u.1)
 
+    -- a wish for an activation of one call was sent once
     pub one-begin : (m n c d f x : ℕ) → slice_get s.sent m ≡ Some (Begin c f x) → slice_get s.sent n ≡ Some (Begin d f x) → m ≡ n
     one-begin m n c d f x e h = one-wish m n (Begin c f x) (Begin d f x) e h refl refl (λ i y j z a b. (sym a.0 ∙ b.0, sym a.1 ∙ b.1))
 
     module _ (m : ℕ) (x : Message) (whole : s.fault ≡ None) (is_sent : slice_get s.sent m ≡ Some x) (new : has s.arrived m ≡ false) where
+      -- what arrives now hadn't arrived
       not-old : (n : ℕ) → has s.arrived n ≡ true → m ≡ n → ⊥
       not-old n h e = true≢false (sym (subst (λ k. has s.arrived k ≡ true) (sym e) h) ∙ new)
 
@@ -438,6 +458,7 @@ module _ (g : Graph) (args : List ℕ) (accepted : IsAccepted g) (all : Partitio
                   subst (λ w. path_of w j ≡ y ∷ path_of s.world f) (sym same) (path-new j e) ∙ ap (λ p. y ∷ p) (sym (grows.path f there)),
                 )
 
+      -- a delivery that goes well keeps it
       once-went : length s.world.activations < 2 ^ 32 → IsMessage g args s.world x → (e : Effect) → IsSoundEffect g args s.world e → ComesOf s.world x (Went e)
           → IsOnceState g args all (after_delivery s m (Went e))
       once-went few reason e effect comes = record {
@@ -510,6 +531,7 @@ module _ (g : Graph) (args : List ℕ) (accepted : IsAccepted g) (all : Partitio
           v : State
           v = record s { printed = out; fault = f; arrived = m ∷ s.arrived }
 
+      -- a second store into a cell is of another instance than the first
       second-store : (p t a j u w : ℕ) → x ≡ Put_cell a j w t → cell_at s.world a j ≡ Some (Filled u p) → IsDouble g args s.world p t
       second-store p t a j u w e h = go (once.filled_by a j u p h)
         where
@@ -540,6 +562,7 @@ module _ (g : Graph) (args : List ℕ) (accepted : IsAccepted g) (all : Partitio
                     (pairs-at TagApart once.tags m h.0 l.0 k.0 once.apart l.1 k.1);
               }
 
+      -- so each delivery keeps it
       once-delivery : length s.world.activations < 2 ^ 32 → IsMessage g args s.world x → (d : Delivery) → IsSoundDelivery g args s.world d → ComesOf s.world x d
           → IsOnceState g args all (after_delivery s m d)
       once-delivery few reason (Went e) effect comes = once-went few reason e effect comes
@@ -563,6 +586,7 @@ module _ (g : Graph) (args : List ℕ) (accepted : IsAccepted g) (all : Partitio
 
     -- ---- any event
 
+    -- and each event
     once-event : (e : Event) → length s.world.activations < 2 ^ 32 → may_follow g all s e ≡ true → IsOnceState g args all (after_event g all s e)
     once-event (Run i b c) few may =
         once-run i b c (no-fault g args accepted s.fault (and-left (is_none s.fault) (may_run g all s i b c) may))
@@ -578,6 +602,7 @@ module _ (g : Graph) (args : List ℕ) (accepted : IsAccepted g) (all : Partitio
             (not-true (has s.arrived m) (and-right (nat_lt m (length s.sent)) (not (has s.arrived m)) arrives))
             few reason (delivered s.world x) (deliver g args s.world sound.world few (opened g args accepted) x reason) (comes s.world x)
 
+  -- and each legal journal
   once-from : are_valid g all ≡ true → (s : State) (es : List Event)
       → length (state_from g all s es).world.activations < 2 ^ 32 → IsSoundState g args s → IsOnceState g args all s → is_legal_from g all s es ≡ true
       → IsOnceState g args all (state_from g all s es)

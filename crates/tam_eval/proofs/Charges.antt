@@ -15,8 +15,8 @@ use Rattle.tam_flow.specs.Worlds.{World, activation_at, its_code, has_word, word
 use Rattle.tam_flow.specs.Journals.{State, has_run, on_their_way}
 use Rattle.tam_flow.specs.Reached.{IsThere}
 use Rattle.tam_flow.proofs.Moves.{Moves, IsForInlet}
-use Rattle.tam_eval.proofs.Sizes.{Few}
-use Rattle.tam_eval.proofs.Answers.{Answered}
+use Rattle.tam_eval.proofs.WorldSizes.{Few}
+use Rattle.tam_eval.proofs.DeliverySends.{Answered}
 
 -- ---- messages that a firing pays for
 

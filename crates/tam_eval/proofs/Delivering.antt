@@ -20,13 +20,13 @@ use Rattle.tam_flow.proofs.CatchUp.{all-caught}
 use Rattle.tam_flow.proofs.Moves.{Moves, JustNone, Left, left-delivered, Fits, fits-later, for-later, moves-none, IsForInlet}
 use Rattle.tam_eval.specs.GraphRuns.{GraphState, joins, after_effect}
 use Rattle.tam_eval.proofs.Follows.{MessagesFit, Follows}
-use Rattle.tam_eval.proofs.Steps.{runs-later, ready-later}
-use Rattle.tam_eval.proofs.Caught.{GoesOn, AllReached, reached-placed, goes-then, reached-on, reached-now, steps-then, caught-way, caught-messages}
+use Rattle.tam_eval.proofs.KeptBySteps.{runs-later, ready-later}
+use Rattle.tam_eval.proofs.StepsCaughtUp.{GoesOn, AllReached, reached-placed, goes-then, reached-on, reached-now, steps-then, caught-way, caught-messages}
 use Rattle.tam_eval.proofs.Firing.{GoesTo, same-state, longer}
-use Rattle.tam_eval.proofs.Answers.{FitsAfter, delivery-fits, answered-fits}
-use Rattle.tam_eval.proofs.Sizes.{Few}
+use Rattle.tam_eval.proofs.DeliverySends.{FitsAfter, delivery-fits, answered-fits}
+use Rattle.tam_eval.proofs.WorldSizes.{Few}
 use Rattle.tam_flow.proofs.ActivationLists.{has-word}
-use Rattle.tam_eval.proofs.Gives.{got-has}
+use Rattle.tam_eval.proofs.FiringGives.{got-has}
 use Rattle.tam_eval.proofs.Charges.{Charge, HasReceived, is_asking, asks-none, charge-word, charge-ask}
 
 -- what is left of a list was in it

@@ -19,12 +19,12 @@ use Rattle.tam_flow.proofs.CatchUp.{Placed, all-caught, ran-old, ran-here, ran-n
 use Rattle.tam_flow.proofs.Moves.{Moves, JustOne, Fits, moves-fired, fits-later, for-later}
 use Rattle.tam_eval.specs.GraphRuns.{GraphState, is_enabled, joins, after_effect}
 use Rattle.tam_eval.proofs.Follows.{Enabled, is_enabled-parts, MessagesFit, Follows, graph_of}
-use Rattle.tam_eval.proofs.Steps.{Steps, runs-later, ready-later}
-use Rattle.tam_eval.proofs.Caught.{GoesOn, AllReached, reached-placed, goes-then, reached-on, reached-now, steps-then, caught-way, caught-messages}
-use Rattle.tam_eval.proofs.Sizes.{Few, fired-few}
-use Rattle.tam_eval.proofs.Sends.{sends-fit}
+use Rattle.tam_eval.proofs.KeptBySteps.{Steps, runs-later, ready-later}
+use Rattle.tam_eval.proofs.StepsCaughtUp.{GoesOn, AllReached, reached-placed, goes-then, reached-on, reached-now, steps-then, caught-way, caught-messages}
+use Rattle.tam_eval.proofs.WorldSizes.{Few, fired-few}
+use Rattle.tam_eval.proofs.FiringSends.{sends-fit}
 use Rattle.tam_eval.proofs.Charges.{Charge, HasFired, charge-fired, fired-one}
-use Rattle.tam_eval.proofs.Gives.{fired-gives, fired-arrays}
+use Rattle.tam_eval.proofs.FiringGives.{fired-gives, fired-arrays}
 
 -- the journal goes on from s to some state that the graph's state after an event follows
 pub record GoesTo (g : Graph) (s : State) (made : GraphState) : Type 0 where

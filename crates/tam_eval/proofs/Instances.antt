@@ -19,7 +19,7 @@ use Rattle.tam_flow.specs.Journals.{State, has_run, block_of_act, parts_of_act}
 use Rattle.tam_flow.specs.Told.{Tells, path_of, meant_at, HaveWords, outlet_place, outlet_ran}
 use Rattle.tam_flow.specs.RunJournals.{IsCharged}
 use Rattle.tam_flow.specs.Reached.{IsThere, IsReached, HaveSome}
-use Rattle.tam_eval.proofs.Steps.{distinct-append}
+use Rattle.tam_eval.proofs.KeptBySteps.{distinct-append}
 use Rattle.tam_flow.proofs.ActivationLists.{has-word}
 use Rattle.tam_eval.proofs.Charges.{HasFired, HasReceived, Charged}
 

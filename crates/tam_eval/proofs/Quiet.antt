@@ -24,8 +24,8 @@ use Rattle.tam_flow.proofs.SingleRuns.{BlockThere, MayRun, may_run-parts, test-b
 use Rattle.tam_flow.proofs.OnTheWay.{none-on_way}
 use Rattle.tam_eval.specs.GraphRuns.{is_enabled}
 use Rattle.tam_eval.proofs.Follows.{parts-is_enabled, Follows}
-use Rattle.tam_eval.proofs.Caught.{reached-placed}
-use Rattle.tam_eval.proofs.Sends.{line-at}
+use Rattle.tam_eval.proofs.StepsCaughtUp.{reached-placed}
+use Rattle.tam_eval.proofs.FiringSends.{line-at}
 use Rattle.tam_eval.proofs.Running.{below-some}
 
 -- ---- operands

@@ -23,9 +23,9 @@ use Rattle.tam_flow.proofs.SingleRuns.{test-below}
 use Rattle.tam_eval.specs.GraphRuns.{GraphState, graph_step, chosen, some_ready, refusal, delivered_unless, after_delivery, end_of}
 use Rattle.tam_eval.proofs.Follows.{Follows, graph_of}
 use Rattle.tam_eval.proofs.Charges.{Charge, Charged, charge-charged, charged-same}
-use Rattle.tam_eval.proofs.Gives.{fired-arrays}
-use Rattle.tam_eval.proofs.Sizes.{Few, fired-size, SizedAfter, delivered-sized}
-use Rattle.tam_eval.proofs.Caught.{GoesOn, AllReached, goes-then, reached-on}
+use Rattle.tam_eval.proofs.FiringGives.{fired-arrays}
+use Rattle.tam_eval.proofs.WorldSizes.{Few, fired-size, SizedAfter, delivered-sized}
+use Rattle.tam_eval.proofs.StepsCaughtUp.{GoesOn, AllReached, goes-then, reached-on}
 use Rattle.tam_eval.proofs.Firing.{GoesTo, firing-goes, some-may as fire_may}
 use Rattle.tam_eval.proofs.Delivering.{DeliveryGoes, delivery-goes, FewAfter, taken, get-in, some-may as come_may}
 

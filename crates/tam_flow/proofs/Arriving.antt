@@ -23,9 +23,10 @@ use Rattle.tam_flow.proofs.Growing.{Grows, with_begun, grows-begun, path-begun}
 use Rattle.tam_flow.proofs.Justified.{IsMessage}
 use Rattle.tam_flow.proofs.CellChanges.{some-eq}
 use Rattle.tam_flow.proofs.Deliveries.{IsSoundDelivery, not-outside, deliver, some-below, there-some}
-use Rattle.tam_flow.proofs.Lengths.{size-from}
+use Rattle.tam_flow.proofs.ActivationCounts.{size-from}
 use Rattle.tam_flow.proofs.SoundStates.{IsSoundState, runnable, run-effect, opened, sound-event, sound-initial, sound-journal}
-use Rattle.tam_flow.proofs.Once.{IsOnceState, once-journal, nil-cons}
+use Rattle.tam_flow.proofs.SentOnce.{IsOnceState, nil-cons}
+use Rattle.tam_flow.proofs.DeliveredOnce.{once-journal}
 use Rattle.tam_flow.proofs.ReachedParts.{caller-path, root-path}
 use Rattle.tam_flow.proofs.Sending.{sent-event}
 

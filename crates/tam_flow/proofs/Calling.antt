@@ -23,10 +23,10 @@ use Rattle.tam_word.proofs.Each.{all-at_place, get-left}
 use Rattle.tam_flow.proofs.Justified.{IsMessage}
 use Rattle.tam_flow.proofs.Deliveries.{IsSoundEffect, IsSoundDelivery, deliver, some-below}
 use Rattle.tam_flow.proofs.SoundStates.{IsSoundState, IsRunnable, runnable, run-effect, order-ready, opened, sound-event, sound-initial}
-use Rattle.tam_flow.proofs.Once.{HasFired}
+use Rattle.tam_flow.proofs.SentOnce.{HasFired}
 use Rattle.tam_flow.proofs.Acyclic.{order-all}
 use Rattle.tam_flow.proofs.Sending.{sent-event}
-use Rattle.tam_flow.proofs.Lengths.{then_one, size-from}
+use Rattle.tam_flow.proofs.ActivationCounts.{then_one, size-from}
 use Rattle.tam_flow.proofs.ClassRuns.{IsReady, sound-one}
 use Rattle.tam_word.proofs.Members.{In, left-in, right-in, in-has, in-get}
 

@@ -22,7 +22,7 @@ use Rattle.tam_flow.proofs.Justified.{IsMessage, messages-later}
 use Rattle.tam_flow.proofs.Deliveries.{IsSoundEffect, there-some}
 use Rattle.tam_flow.proofs.Nodes.{block-each}
 use Rattle.tam_flow.proofs.Firings.{fired-sound}
-use Rattle.tam_flow.proofs.Lengths.{then_one}
+use Rattle.tam_flow.proofs.ActivationCounts.{then_one}
 
 -- the order in which a class fires has no other places
 pub taken-each : (P : ℕ → Type 0) (n : ℕ) (es : Edges) (left : List ℕ) → AllByRecursion P left → AllByRecursion P (taken_first n es left)
@@ -111,7 +111,11 @@ module _ (g : Graph) (args : List ℕ) (accepted : IsAccepted g) (w : World) (i 
           let inside = subst (λ n. (vertex_at b y).node < length (code_of g n).nodes) (sym code) (ready d).0 in
           let opened = subst (λ n. Holds g args (Entered (path_of e.world i) (block_at (code_of g n) (vertex_at b y).node))) (sym code)
           (subst (λ q. Holds g args (Entered q (block_at (its_code g w i) (vertex_at b y).node))) (sym (sound.grows.path i there)) (ready d).1) in
-          let f = fired-sound g args accepted e.world sound.world i (sound.grows.there i there) (vertex_at b y).node inside opened in
+          let f = fired-sound (record {
+            stands = record { accepted = accepted; sound = sound.world; there = sound.grows.there i there };
+            inside = inside;
+            open_block = opened;
+          }) in
           rw (then_one, d) (record {
             world = f.world;
             grows = grows-on w e.world (fired g e.world i (vertex_at b y).node).world sound.grows f.grows;

@@ -18,7 +18,7 @@ use Rattle.tam_flow.proofs.Justified.{IsMessage}
 use Rattle.tam_flow.proofs.CellChanges.{none-some, some-eq}
 use Rattle.tam_flow.proofs.Deliveries.{there-some}
 use Rattle.tam_flow.proofs.SoundStates.{IsSoundState}
-use Rattle.tam_flow.proofs.Once.{IsOnceState, IsBegunBy, cons-tail, nil-cons}
+use Rattle.tam_flow.proofs.SentOnce.{IsOnceState, IsBegunBy, cons-tail, nil-cons}
 use Rattle.tam_word.proofs.Tests.{number-eq}
 
 -- paths that are known stay in front

@@ -20,7 +20,7 @@ use Rattle.tam_word.proofs.Tests.{and-left, and-right, number-eq}
 use Rattle.tam_word.proofs.Each.{all-of_each, each-below, below-each, all-flat, all-filter, all-at_place}
 use Rattle.tam_flow.proofs.Deliveries.{there-some}
 use Rattle.tam_flow.proofs.SoundStates.{IsSoundState, sound-journal}
-use Rattle.tam_flow.proofs.Once.{HasFired}
+use Rattle.tam_flow.proofs.SentOnce.{HasFired}
 use Rattle.tam_flow.proofs.Calling.{calls-sent}
 use Rattle.tam_word.proofs.Members.{has-in, In}
 

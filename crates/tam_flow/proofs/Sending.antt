@@ -18,9 +18,9 @@ use Rattle.tam_word.proofs.Each.{get-left}
 use Rattle.tam_flow.proofs.CellChanges.{none-some, some-eq}
 use Rattle.tam_flow.proofs.Deliveries.{some-below}
 use Rattle.tam_flow.proofs.SoundStates.{counted, below-counted, sound-journal}
-use Rattle.tam_flow.proofs.Once.{once-journal}
+use Rattle.tam_flow.proofs.DeliveredOnce.{once-journal}
 use Rattle.tam_flow.proofs.Suiting.{receivers-suit}
-use Rattle.tam_flow.proofs.Places.{param-at}
+use Rattle.tam_flow.proofs.InterfacePlaces.{param-at}
 use Rattle.tam_word.proofs.Tests.{test-below}
 use Rattle.tam_word.proofs.Members.{in-get, flat_map-in, In}
 

@@ -31,9 +31,9 @@ use Rattle.tam_flow.proofs.CellChanges.{none-some, some-eq}
 use Rattle.tam_flow.proofs.Deliveries.{IsSoundEffect, IsSoundDelivery, IsFault, deliver}
 use Rattle.tam_flow.proofs.Nodes.{where-each, is-param, root-words}
 use Rattle.tam_graph.proofs.BranchBlocks.{has-body}
-use Rattle.tam_flow.proofs.Firings.{no-call}
+use Rattle.tam_flow.proofs.FiringReasons.{no-call}
 use Rattle.tam_flow.proofs.ClassRuns.{IsReady, order-each, vertex-each, class-inside, sound-each}
-use Rattle.tam_flow.proofs.Lengths.{size-from}
+use Rattle.tam_flow.proofs.ActivationCounts.{size-from}
 
 -- the state: its world, its messages, its runs and its fault
 pub record IsSoundState (g : Graph) (args : List ℕ) (s : State) : Type 0 where

@@ -19,7 +19,8 @@ use Rattle.tam_flow.proofs.Justified.{StandsFor, Means, IsMessage, depth_in}
 use Rattle.tam_flow.proofs.Deliveries.{some-below}
 use Rattle.tam_flow.proofs.Nodes.{right-depth}
 use Rattle.tam_flow.proofs.SoundStates.{IsSoundState}
-use Rattle.tam_flow.proofs.Once.{IsOnceState, one-wish, nil-cons}
+use Rattle.tam_flow.proofs.SentOnce.{IsOnceState, nil-cons}
+use Rattle.tam_flow.proofs.DeliveredOnce.{one-wish}
 use Rattle.tam_flow.proofs.ReachedParts.{root-path, caller-path}
 use Rattle.tam_word.proofs.Tests.{number-eq}
 

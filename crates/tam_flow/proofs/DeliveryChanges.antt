@@ -19,8 +19,8 @@ use Rattle.tam_flow.specs.Reached.{cells_at, cell_at}
 use Rattle.tam_flow.proofs.Growing.{with_begun}
 use Rattle.tam_flow.proofs.Changes.{set-cases}
 use Rattle.tam_flow.proofs.CellChanges.{some-eq, push-cases, all-same, cell-array}
-use Rattle.tam_flow.proofs.Lengths.{size, size-got, then_one}
-use Rattle.tam_flow.proofs.Tags.{asks}
+use Rattle.tam_flow.proofs.ActivationCounts.{size, size-got, then_one}
+use Rattle.tam_flow.proofs.Senders.{asks}
 
 -- a filled cell was filled before, or by this message
 abbrev pub FilledBy : World → Message → World → Type 0

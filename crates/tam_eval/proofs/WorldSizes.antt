@@ -12,7 +12,7 @@ use Rattle.tam_istr.specs.Cells.{fetch_of, store_of, in_array, fetched_from, sto
 use Rattle.tam_flow.specs.Worlds.{World, Delivery, Went, Printed, Faulted, its_code, begun, with_word, got, all_got, merges_of, words_of}
 use Rattle.tam_flow.specs.Worlds.{firing_of, fired_with, fired, accessed, delivered}
 use Rattle.tam_flow.proofs.Moves.{length-changed, length-push}
-use Rattle.tam_eval.proofs.Gives.{fired-arrays}
+use Rattle.tam_eval.proofs.FiringGives.{fired-arrays}
 
 -- as few as the invariant of journals asks for
 pub record Few (w : World) : Type 0 where

@@ -17,10 +17,11 @@ use Rattle.tam_flow.specs.Journals.{fire_each}
 use Rattle.tam_flow.specs.Reached.{IsThere}
 use Rattle.tam_word.proofs.Each.{all-more, all-append, all-map}
 use Rattle.tam_flow.proofs.Growing.{Grows}
-use Rattle.tam_flow.proofs.Justified.{IsPutBy, IsSoundWorld, put_by-later}
+use Rattle.tam_flow.proofs.Justified.{IsPutBy, put_by-later}
 use Rattle.tam_flow.proofs.Deliveries.{IsSoundEffect}
-use Rattle.tam_flow.proofs.Firings.{HaveThese, words-are, put-by, fired-sound}
-use Rattle.tam_flow.proofs.Lengths.{then_one}
+use Rattle.tam_flow.proofs.FiringReasons.{HaveThese, words-are, MayFire}
+use Rattle.tam_flow.proofs.Firings.{put-by, fired-sound}
+use Rattle.tam_flow.proofs.ActivationCounts.{then_one}
 use Rattle.tam_flow.proofs.ClassRuns.{IsReady, sound-one}
 use Rattle.tam_flow.proofs.Pairs.{Pairs, pairs-append, NoTwice}
 use Rattle.tam_word.proofs.Members.{In}
@@ -105,44 +106,43 @@ pub tagged-apart : (g : Graph) (args : List ℕ) (w : World) (i x : ℕ) (ms : L
 tagged-apart g args w i x ms (inl h) = words-apart i x ms h
 tagged-apart g args w i x ms (inr h) = subst (λ l. Pairs TagApart (tagged_with i x l)) (sym h.1) (tt, tt)
 
-module _ (g : Graph) (args : List ℕ) (accepted : IsAccepted g) (w : World) (sound : IsSoundWorld g args w) (i : ℕ) (there : IsThere w i) where
-  module _ (x : ℕ) (inside : x < length (its_code g w i).nodes) (open_block : Holds g args (Entered (path_of w i) (block_at (its_code g w i) x))) where
-    -- results are words
-    result-words : (k v : ℕ) → AllByRecursion (λ m. asks m ≡ false) (result_message g w i k v)
-    result-words k v = go ((activation_at w i).caller == outside) refl
-      where
-        go : (b : Bool) → ((activation_at w i).caller == outside) ≡ b → AllByRecursion (λ m. asks m ≡ false) (result_message g w i k v)
-        go true c = rw (result_message, c) (refl, tt)
-        go false c = rw (result_message, c)
-            (words-only (activation_at w i).caller v (node_where (its_code g w (activation_at w i).caller) (is_ret (activation_at w i).call k)))
+module _ {g : Graph} {args : List ℕ} {w : World} {i x : ℕ} (firer : MayFire g args w i x) where
+  -- results are words
+  result-words : (k v : ℕ) → AllByRecursion (λ m. asks m ≡ false) (result_message g w i k v)
+  result-words k v = go ((activation_at w i).caller == outside) refl
+    where
+      go : (b : Bool) → ((activation_at w i).caller == outside) ≡ b → AllByRecursion (λ m. asks m ≡ false) (result_message g w i k v)
+      go true c = rw (result_message, c) (refl, tt)
+      go false c = rw (result_message, c)
+          (words-only (activation_at w i).caller v (node_where (its_code g w (activation_at w i).caller) (is_ret (activation_at w i).call k)))
 
-    -- a firing sends one wish at most, by what the node does
-    firing-wish : (k : Kind) (vs : List ℕ) → kind_at (its_code g w i) x ≡ k → HaveThese w i (operands_of (its_code g w i) k) vs
-        → IsOneWish g args w i x (firing_of g w i x k vs).sends
-    firing-wish (Const v) [] e h = inl tt
-    firing-wish (Operate o l r) (u ∷ v ∷ []) e h = inl tt
-    firing-wish (Seq l r) (u ∷ v ∷ []) e h = inl tt
-    firing-wish (Call c) [] e h = inr (Begin c i x, refl, (refl, refl))
-    firing-wish (Arg f k a) (v ∷ p ∷ []) e h = inl (words-only p v (node_where (code_of g (callee_of (its_code g w i) f)) (is_param k)))
-    firing-wish (Give k a) (v ∷ []) e h = inl (result-words k v)
-    firing-wish (Alloc a) (n ∷ []) e h = inr (Make n i x, refl, (refl, refl))
-    firing-wish (Fetch a j) (u ∷ v ∷ []) e h = inr (Ask_cell u v i x _, refl, (refl, refl))
-    firing-wish (Store a j b) (t ∷ u ∷ v ∷ []) e h = inr (Put_cell t u v _, refl, put-by g args accepted w sound i there x inside open_block a j b t u v e h)
-    firing-wish (Cond p y n) (v ∷ []) e h = inl tt
-    firing-wish (Switch d k a) (u ∷ v ∷ []) e h = inl tt
-    firing-wish (Leave k a) (v ∷ []) e h = inl tt
-    firing-wish k vs e h = inl tt
+  -- a firing sends one wish at most, by what the node does
+  firing-wish : (k : Kind) (vs : List ℕ) → kind_at (its_code g w i) x ≡ k → HaveThese w i (operands_of (its_code g w i) k) vs
+      → IsOneWish g args w i x (firing_of g w i x k vs).sends
+  firing-wish (Const v) [] e h = inl tt
+  firing-wish (Operate o l r) (u ∷ v ∷ []) e h = inl tt
+  firing-wish (Seq l r) (u ∷ v ∷ []) e h = inl tt
+  firing-wish (Call c) [] e h = inr (Begin c i x, refl, (refl, refl))
+  firing-wish (Arg f k a) (v ∷ p ∷ []) e h = inl (words-only p v (node_where (code_of g (callee_of (its_code g w i) f)) (is_param k)))
+  firing-wish (Give k a) (v ∷ []) e h = inl (result-words k v)
+  firing-wish (Alloc a) (n ∷ []) e h = inr (Make n i x, refl, (refl, refl))
+  firing-wish (Fetch a j) (u ∷ v ∷ []) e h = inr (Ask_cell u v i x _, refl, (refl, refl))
+  firing-wish (Store a j b) (t ∷ u ∷ v ∷ []) e h = inr (Put_cell t u v _, refl, put-by firer a j b t u v e h)
+  firing-wish (Cond p y n) (v ∷ []) e h = inl tt
+  firing-wish (Switch d k a) (u ∷ v ∷ []) e h = inl tt
+  firing-wish (Leave k a) (v ∷ []) e h = inl tt
+  firing-wish k vs e h = inl tt
 
-    -- whatever the node is
-    pub fired-wish : IsOneWish g args w i x (fired g w i x).sends
-    fired-wish = go (words_of w i (operands_of (its_code g w i) (kind_at (its_code g w i) x)))
-        (words-are w i (operands_of (its_code g w i) (kind_at (its_code g w i) x)))
-      where
-        go : (ws : List (List ℕ)) → ((vs : List ℕ) (more : List (List ℕ)) → ws ≡ vs ∷ more
-            → HaveThese w i (operands_of (its_code g w i) (kind_at (its_code g w i) x)) vs)
-            → IsOneWish g args w i x (fired_with g w i x ws).sends
-        go [] f = inl tt
-        go (vs ∷ more) f = firing-wish (kind_at (its_code g w i) x) vs refl (f vs more refl)
+  -- whatever the node is
+  pub fired-wish : IsOneWish g args w i x (fired g w i x).sends
+  fired-wish = go (words_of w i (operands_of (its_code g w i) (kind_at (its_code g w i) x)))
+      (words-are w i (operands_of (its_code g w i) (kind_at (its_code g w i) x)))
+    where
+      go : (ws : List (List ℕ)) → ((vs : List ℕ) (more : List (List ℕ)) → ws ≡ vs ∷ more
+          → HaveThese w i (operands_of (its_code g w i) (kind_at (its_code g w i) x)) vs)
+          → IsOneWish g args w i x (fired_with g w i x ws).sends
+      go [] f = inl tt
+      go (vs ∷ more) f = firing-wish (kind_at (its_code g w i) x) vs refl (f vs more refl)
 
 -- ---- a run
 
@@ -212,8 +212,13 @@ module _ (g : Graph) (args : List ℕ) (accepted : IsAccepted g) (w : World) (i 
           let inside = subst (λ n. (vertex_at b y).node < length (code_of g n).nodes) (sym code) (ready d).0 in
           let opened = subst (λ n. Holds g args (Entered (path_of e.world i) (block_at (code_of g n) (vertex_at b y).node))) (sym code)
           (subst (λ q. Holds g args (Entered q (block_at (its_code g w i) (vertex_at b y).node))) (sym (sound.grows.path i there)) (ready d).1) in
-          let f = fired-sound g args accepted e.world sound.world i (sound.grows.there i there) (vertex_at b y).node inside opened in
-          let wish = fired-wish g args accepted e.world sound.world i (sound.grows.there i there) (vertex_at b y).node inside opened in
+          let firer : MayFire g args e.world i (vertex_at b y).node = record {
+            stands = record { accepted = accepted; sound = sound.world; there = sound.grows.there i there };
+            inside = inside;
+            open_block = opened;
+          } in
+          let f = fired-sound firer in
+          let wish = fired-wish firer in
           let sends : List Message = (fired g e.world i (vertex_at b y).node).sends in
           rw (then_one, d) (record {
             tags = run.tags ++ tagged_with i (vertex_at b y).node sends;

@@ -24,7 +24,8 @@ use Rattle.tam_eval.proofs.StepsCaughtUp.{GoesOn, AllReached, reached-placed, go
 use Rattle.tam_eval.proofs.WorldSizes.{Few, fired-few}
 use Rattle.tam_eval.proofs.FiringSends.{sends-fit}
 use Rattle.tam_eval.proofs.Charges.{Charge, HasFired, charge-fired, fired-one}
-use Rattle.tam_eval.proofs.FiringGives.{fired-gives, fired-arrays}
+use Rattle.tam_eval.proofs.FiringGives.{fired-gives}
+use Rattle.tam_flow.proofs.DeliveryChanges.{arrays-fired}
 
 -- the journal goes on from s to some state that the graph's state after an event follows
 pub record GoesTo (g : Graph) (s : State) (made : GraphState) : Type 0 where
@@ -167,7 +168,7 @@ module _ (g : Graph) (acc : IsAccepted g) (args : List ℕ) (s : State) (all : A
       fits m (inr h) = fits-later g (JustOne i x) s.world after.world moves m (sends-fit g acc args s (reached-now g args s all few) i x here.0 m h)
 
       same-cell : (a j : ℕ) (rs : List Reader) → cell_at after.world a j ≡ Some (Empty rs) → cell_at s.world a j ≡ Some (Empty rs)
-      same-cell a j rs e = subst (λ (w : Arrays). slice_get (unwrap_or (slice_get w a) []) j ≡ Some (Empty rs)) (fired-arrays g s.world i x) e
+      same-cell a j rs e = subst (λ (w : Arrays). slice_get (unwrap_or (slice_get w a) []) j ≡ Some (Empty rs)) (arrays-fired g s.world i x) e
 
   -- the node has fired
   has-fired : (t : State) → Steps g (JustOne i x) s t → HasFired g t i x

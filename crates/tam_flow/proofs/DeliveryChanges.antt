@@ -163,7 +163,7 @@ arrays-firing g w i x (Leave k a) (v ∷ []) = arrays-all_got w i (merges_of (it
 arrays-firing g w i x k vs = refl
 
 -- whatever the node is
-arrays-fired : (g : Graph) (w : World) (i x : ℕ) → (fired g w i x).world.arrays ≡ w.arrays
+pub arrays-fired : (g : Graph) (w : World) (i x : ℕ) → (fired g w i x).world.arrays ≡ w.arrays
 arrays-fired g w i x = go (words_of w i (operands_of (its_code g w i) (kind_at (its_code g w i) x)))
   where
     go : (ws : List (List ℕ)) → (fired_with g w i x ws).world.arrays ≡ w.arrays

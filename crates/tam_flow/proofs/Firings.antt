@@ -30,7 +30,7 @@ use Rattle.tam_flow.proofs.FiringReasons.{word-operand, call-is, flat-word, here
 use Rattle.tam_flow.proofs.FiringBranches.{fire-cond, fire-switch, fire-leave}
 
 -- a depth above 0 is one more than a depth
-some-depth : (d : ℕ) → 0 < d → (e : ℕ) × (d ≡ suc e)
+pub some-depth : (d : ℕ) → 0 < d → (e : ℕ) × (d ≡ suc e)
 some-depth zero l = absurd (omega arith)
 some-depth (suc e) l = (e, refl)
 

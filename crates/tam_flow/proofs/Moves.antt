@@ -20,6 +20,7 @@ use Rattle.tam_flow.specs.Worlds.{has_word, has_entered, with_word, with_block, 
 use Rattle.tam_flow.specs.Worlds.{accessed, delivered}
 use Rattle.tam_flow.specs.Reached.{IsThere}
 use Rattle.tam_flow.proofs.ActivationLists.{was_entered, entered-stays, has_among, has-stays, has-cases}
+use Rattle.tam_word.proofs.Each.{length-changed_at}
 
 -- what an event leaves; Just are the nodes that fired
 pub record Moves (g : Graph) (Just : ℕ → ℕ → Type 0) (w v : World) : Type 0 where
@@ -41,12 +42,6 @@ changed-cases zero zero f (x ∷ xs) = inr (refl, (x, refl, refl))
 changed-cases zero (suc j) f (x ∷ xs) = inl refl
 changed-cases (suc i) zero f (x ∷ xs) = inl refl
 changed-cases (suc i) (suc j) f (x ∷ xs) = elim (changed-cases i j f xs) [ inl e ↦ inl e | inr r ↦ inr (ap suc r.0, r.1) ]
-
--- as many elements
-pub length-changed : (i : ℕ) (f : ActivationState → ActivationState) (xs : List ActivationState) → length (changed_at i f xs) ≡ length xs
-length-changed i f [] = refl
-length-changed zero f (x ∷ xs) = refl
-length-changed (suc i) f (x ∷ xs) = ap suc (length-changed i f xs)
 
 -- an element of a list with one more is the list's, or it is that one, behind all others
 push-cases : (xs : List ActivationState) (y : ActivationState) (j : ℕ)
@@ -111,7 +106,7 @@ module _ (g : Graph) (Just : ℕ → ℕ → Type 0) (w : World) where
   moves-changed : (v : World) (i : ℕ) (f : ActivationState → ActivationState) → Keeps f (IsNew i) → Moves g Just w v
       → Moves g Just w (record v { activations = changed_at i f v.activations })
   moves-changed v i f k m = record {
-    there = λ j h. let l : j < length v.activations = m.there j h in subst (λ n. j < n) (sym (length-changed i f v.activations)) l;
+    there = λ j h. let l : j < length v.activations = m.there j h in subst (λ n. j < n) (sym (length-changed_at i f v.activations)) l;
     codes = λ j h. code j (changed-cases i j f v.activations) ∙ m.codes j h;
     words_stay = λ j y h. stay j y (changed-cases i j f v.activations) (m.words_stay j y h);
     entered_stay = λ j b h. block j b (changed-cases i j f v.activations) (m.entered_stay j b h);

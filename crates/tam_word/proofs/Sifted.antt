@@ -2,7 +2,7 @@
 use Rattle.std.proofs.Common.{◌≡◌, ◌≢◌, ℕ, zero, suc, ◌<◌, Bool, true, false, ◌&&◌, ◌==◌, List, [], ◌∷◌, ◌++◌, filter, flat_map, refl, sym, ap, ◌∙◌, arith, true≢false}
 use Rattle.std.proofs.lemmas.Grind.{flat_map-append}
 use Rattle.std.proofs.lemmas.List.{append-nil}
-use Rattle.tam_word.specs.Lists.{below, all_of}
+use Rattle.tam_word.specs.Lists.{below}
 use Rattle.tam_word.proofs.Tests.{number-eq, number-differs}
 
 -- tests that agree sift alike
@@ -24,17 +24,6 @@ filter-twice p q (x ∷ xs) = go (p x) refl (filter-twice p q xs)
 pub filter-none : {X : Type 0} (p : X → Bool) → ((x : X) → p x ≡ false) → (xs : List X) → filter p xs ≡ []
 filter-none p h [] = refl
 filter-none p h (x ∷ xs) = rw (h x, filter-none p h xs) refl
-
--- tests that agree agree on all
-pub all_of-alike : {X : Type 0} (p q : X → Bool) → ((x : X) → p x ≡ q x) → (xs : List X) → all_of p xs ≡ all_of q xs
-all_of-alike p q h [] = refl
-all_of-alike p q h (x ∷ xs) = go (p x) refl (q x) refl (all_of-alike p q h xs)
-  where
-    go : (a : Bool) → p x ≡ a → (b : Bool) → q x ≡ b → all_of p xs ≡ all_of q xs → all_of p (x ∷ xs) ≡ all_of q (x ∷ xs)
-    go true d true e i = rw (all_of, d, e) i
-    go false d false e i = rw (all_of, d, e) refl
-    go true d false e i = absurd (true≢false (sym d ∙ h x ∙ e))
-    go false d true e i = absurd (true≢false (sym e ∙ sym (h x) ∙ d))
 
 -- where no number below n has a list, all together have none
 pub flat_map-below_none : {X : Type 0} (f : ℕ → List X) (n : ℕ) → ((j : ℕ) → j < n → f j ≡ []) → flat_map f (below n) ≡ []

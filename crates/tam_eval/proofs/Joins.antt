@@ -5,11 +5,12 @@ use Rattle.std.proofs.lemmas.List.{append-nil}
 use Rattle.tam_word.specs.Lists.{below, has}
 use Rattle.tam_word.proofs.Sifted.{filter-alike, filter-twice, filter-none, flat_map-below_none, flat_map-below_one}
 use Rattle.tam_istr.specs.Cells.{Arrays}
+use Rattle.tam_msgs.specs.Messages.{outside}
 use Rattle.tam_graph.specs.Graphs.{Graph, Code, code_of, kind_at, block_at, operands_of, fires, node_numbers, nodes_in}
 use Rattle.tam_flow.specs.Worlds.{World, ActivationState, begun, or_activation, activation_at, its_code, word_at, has_word, has_entered, with_word, with_block, got, all_got, entered, opening}
 use Rattle.tam_eval.specs.GraphRuns.{is_enabled, joins_at, joins, nothing_begun}
 use Rattle.tam_eval.specs.Takers.{takers_of, firers_in, starters_of, is_none}
-use Rattle.tam_eval.proofs.Activations.{its_word, is_in, may_fire, newly, newly-same, newly-all, newly-word, newly-block, again-word, again-block, may_fire-begun}
+use Rattle.tam_eval.proofs.Activations.{its_word, is_in, may_fire, newly, newly-same, newly-all, gate, is_fed, newly-word, newly-block, again-word, again-block, may_fire-begun}
 use Rattle.tam_eval.proofs.Accessors.{changed-cases, IsLive, with_begun, length-with_changed, changed-activation, other-activation, nothing-changed, length-begun, activation-begun, activation-begun_other, activation-past}
 
 module _ (g : Graph) (w v : World) where
@@ -106,3 +107,89 @@ joins-entered_again g w i b h =
 -- in an activation that isn't there, none joins
 pub joins-entered_past : (g : Graph) (w : World) (i b : ℕ) → length w.activations ≤ i → joins g w (entered w i b) ≡ []
 joins-entered_past g w i b l = joins-none g w (entered w i b) (λ j x. ap (λ u. is_enabled g u j x) (nothing-changed w i (with_block b) l))
+
+-- ---- an activation began
+
+-- in an activation that begins, the nodes of the body without operands may fire, and no others
+begun-starters : (c : Code) (k f z : ℕ) → filter (may_fire c (begun k f z)) (firers_in c 0) ≡ starters_of c
+begun-starters c k f z =
+    firers-sifted c 0 (may_fire c (begun k f z))
+    ∙ filter-alike (λ x. ((block_at c x == 0) && fires (kind_at c x)) && may_fire c (begun k f z) x)
+    (λ x. ((block_at c x == 0) && fires (kind_at c x)) && is_none (operands_of c (kind_at c x)))
+    (λ x. ap (λ t. ((block_at c x == 0) && fires (kind_at c x)) && t) (may_fire-begun c k f z x)
+    ∙ twice ((block_at c x == 0) && fires (kind_at c x)) (is_none (operands_of c (kind_at c x)))) (node_numbers c)
+    ∙ sym (firers-sifted c 0 (λ x. is_none (operands_of c (kind_at c x))))
+  where
+    twice : (s t : Bool) → (s && (s && t)) ≡ (s && t)
+    twice true t = refl
+    twice false t = refl
+
+-- none of its nodes might fire before
+begun-new : (c : Code) (k f z : ℕ) (before : ℕ → Bool) → ((x : ℕ) → before x ≡ false)
+    → filter (λ x. newly (may_fire c (begun k f z) x) (before x)) (node_numbers c) ≡ filter (may_fire c (begun k f z)) (firers_in c 0)
+begun-new c k f z before h =
+    filter-alike (λ x. newly (may_fire c (begun k f z) x) (before x)) (λ x. ((block_at c x == 0) && fires (kind_at c x)) && may_fire c (begun k f z) x)
+    (λ x. ap (newly (may_fire c (begun k f z) x)) (h x) ∙ newly-all (may_fire c (begun k f z) x) ∙ again x) (node_numbers c)
+    ∙ sym (firers-sifted c 0 (may_fire c (begun k f z)))
+  where
+    twice : (s t : Bool) → (s && t) ≡ (s && (s && t))
+    twice true t = refl
+    twice false t = refl
+
+    again : (x : ℕ) → may_fire c (begun k f z) x ≡ (((block_at c x == 0) && fires (kind_at c x)) && may_fire c (begun k f z) x)
+    again x =
+        may_fire-begun c k f z x
+        ∙ twice ((block_at c x == 0) && fires (kind_at c x)) (is_none (operands_of c (kind_at c x)))
+        ∙ ap (λ t. ((block_at c x == 0) && fires (kind_at c x)) && t) (sym (may_fire-begun c k f z x))
+
+-- an activation that isn't there has no vertex that may fire
+pub enabled-past : (g : Graph) (w : World) (j x : ℕ) → length w.activations ≤ j → is_enabled g w j x ≡ false
+enabled-past g w j x l = ap (λ a. may_fire (code_of g a.code) a x) (activation-past w j l) ∙ shut (fires (kind_at (code_of g 0) x)) (is_fed (code_of g 0) (or_activation None) x)
+  where
+    shut : (s t : Bool) → gate s false t ≡ false
+    shut true t = refl
+    shut false t = refl
+
+-- after an activation began, those of its body that may fire join
+pub joins-begun : (g : Graph) (w : World) (k f x : ℕ)
+    → joins g w (with_begun w k f x)
+    ≡ map (λ z. (length w.activations, z)) (filter (is_enabled g (with_begun w k f x) (length w.activations)) (firers_in (code_of g k) 0))
+joins-begun g w k f x =
+    joins-changed g w (with_begun w k f x) (length w.activations) (begun k f x) (firers_in (code_of g k) 0) (omega (arith, length-begun w k f x))
+    (activation-begun_other w k f x) (activation-begun w k f x)
+    (begun-new (code_of g k) k f x (is_enabled g w (length w.activations)) (λ z. enabled-past g w (length w.activations) z (omega arith)))
+
+-- those are the nodes of the body without operands
+pub joins-begun_starters : (g : Graph) (w : World) (k f x : ℕ)
+    → joins g w (with_begun w k f x) ≡ map (λ z. (length w.activations, z)) (starters_of (code_of g k))
+joins-begun_starters g w k f x =
+    joins-begun g w k f x
+    ∙ ap (map (λ z. (length w.activations, z))) (subst Starts (sym (activation-begun w k f x)) (begun-starters (code_of g k) k f x))
+  where
+    Starts : ActivationState → Type 0
+    Starts a = filter (may_fire (code_of g a.code) a) (firers_in (code_of g k) 0) ≡ starters_of (code_of g k)
+
+-- ---- the beginning
+
+-- the root's vertices that may fire stand ready
+pub joins-opening : (g : Graph)
+    → joins g nothing_begun (opening g) ≡ map (λ z. (0, z)) (filter (is_enabled g (opening g) 0) (firers_in (code_of g g.main) 0))
+joins-opening g = joins-begun g nothing_begun g.main outside 0
+
+-- those are the nodes of its body without operands
+pub joins-opening_starters : (g : Graph) → joins g nothing_begun (opening g) ≡ map (λ z. (0, z)) (starters_of (code_of g g.main))
+joins-opening_starters g = joins-begun_starters g nothing_begun g.main outside 0
+
+-- ---- events that change no activation
+
+-- where no activation changed, none joins
+pub joins-arrays : (g : Graph) (w : World) (arrays : Arrays) (makers : List (ℕ × ℕ)) → joins g w (record w { arrays = arrays; makers = makers }) ≡ []
+joins-arrays g w arrays makers = joins-none g w (record w { arrays = arrays; makers = makers }) (λ j x. refl)
+
+-- nor where arrays alone changed
+pub joins-arrays_alone : (g : Graph) (w : World) (arrays : Arrays) → joins g w (record w { arrays = arrays }) ≡ []
+joins-arrays_alone g w arrays = joins-none g w (record w { arrays = arrays }) (λ j x. refl)
+
+-- nor where nothing changed
+pub joins-unchanged : (g : Graph) (w : World) → joins g w w ≡ []
+joins-unchanged g w = joins-none g w w (λ j x. refl)

@@ -1,5 +1,5 @@
 -- What the words on a world say after a node got a word, a block was entered, or an activation began.
-use Rattle.std.proofs.Common.{◌≡◌, ◌≢◌, ℕ, zero, suc, ◌<◌, ◌≤◌, Bool, true, false, ◌==◌, ◌||◌, List, [], ◌∷◌, ◌++◌, nat_lt, subst, Option, Some, None, length, slice_get, refl, sym, ap, ◌∙◌, arith, tests, ◌⊎◌, inl, inr, ⊎_elim}
+use Rattle.std.proofs.Common.{◌≡◌, ◌≢◌, ℕ, zero, suc, ◌<◌, ◌≤◌, Bool, true, false, ◌==◌, ◌||◌, List, [], ◌∷◌, ◌++◌, nat_lt, subst, Some, None, length, slice_get, refl, sym, ap, ◌∙◌, arith, tests, ◌⊎◌, inl, inr, ⊎_elim}
 use Rattle.std.specs.Prelude.{is_some}
 use Rattle.std.proofs.lemmas.Option.{slice_get_past}
 use Rattle.tam_word.specs.Lists.{changed_at}

@@ -1,7 +1,7 @@
 -- One activation's words and blocks, and which of its nodes may fire, after it got a word, entered a block, or began.
 use Rattle.std.proofs.Common.{◌≡◌, ◌≢◌, ℕ, zero, suc, Bool, true, false, not, ◌==◌, ◌||◌, ◌&&◌, List, [], ◌∷◌, Option, Some, None, slice_index_or, refl, sym, ap, ◌∙◌, ⊎_elim, true≢false, arith}
 use Rattle.std.specs.Prelude.{is_some}
-use Rattle.tam_word.specs.Lists.{all_of, has, put_at}
+use Rattle.tam_word.specs.Lists.{all_of, has}
 use Rattle.tam_word.proofs.Tests.{number-eq, number-differs, differs-number}
 use Rattle.tam_word.proofs.PutAt.{put_at-here, put_at-cases}
 use Rattle.tam_word.proofs.AllOf.{all_of-alike, all_of-but, all_of-fails, all_of-more}
@@ -136,6 +136,13 @@ module _ (c : Code) (a : ActivationState) where
       (λ k. all_of-fails (λ z. is_some (its_word a z)) y (ap is_some h) (operands_of c (kind_at c x)) k)
       (λ k. all_of-but (λ z. is_some (its_word (with_word y v a) z)) (λ z. is_some (its_word a z)) y
       (λ z e. ap is_some (word-with_word_other a y v z e)) (operands_of c (kind_at c x)) k)
+
+  -- a word makes none able to fire that doesn't take it
+  pub stays-word : (y v x : ℕ) → has (operands_of c (kind_at c x)) y ≡ false → may_fire c (with_word y v a) x ≡ may_fire c a x
+  stays-word y v x h =
+      ap (gate (fires (kind_at c x)) (is_in a (block_at c x)))
+      (all_of-but (λ z. is_some (its_word (with_word y v a) z)) (λ z. is_some (its_word a z)) y (λ z e. ap is_some (word-with_word_other a y v z e))
+      (operands_of c (kind_at c x)) h)
 
   -- a node that had a word makes none able to fire by another
   pub again-word : (y v x : ℕ) → is_some (its_word a y) ≡ true → may_fire c (with_word y v a) x ≡ may_fire c a x

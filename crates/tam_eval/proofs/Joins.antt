@@ -1,17 +1,16 @@
 -- Which vertices join the ready list after each kind of event, by lists of takers and of the nodes of a block.
-use Rattle.std.proofs.Common.{◌≡◌, ◌≢◌, ℕ, suc, ◌<◌, ◌≤◌, Bool, true, false, ◌==◌, ◌&&◌, List, [], ◌∷◌, ◌++◌, None, length, filter, map, flat_map, refl, sym, ap, ◌∙◌, subst, arith, true≢false, ⊎_elim}
-use Rattle.std.specs.Prelude.{is_some}
-use Rattle.std.proofs.lemmas.List.{append-nil}
-use Rattle.tam_word.specs.Lists.{below, has}
+use Rattle.std.proofs.Common.{◌≡◌, ◌≢◌, ℕ, ◌≤◌, Bool, true, false, ◌==◌, ◌&&◌, List, [], None, length, filter, map, refl, sym, ap, ◌∙◌, subst, arith, ⊎_elim}
+use Rattle.tam_word.specs.Lists.{has}
 use Rattle.tam_word.proofs.Sifted.{filter-alike, filter-twice, filter-none, flat_map-below_none, flat_map-below_one}
 use Rattle.tam_istr.specs.Cells.{Arrays}
 use Rattle.tam_msgs.specs.Messages.{outside}
-use Rattle.tam_graph.specs.Graphs.{Graph, Code, code_of, kind_at, block_at, operands_of, fires, node_numbers, nodes_in}
-use Rattle.tam_flow.specs.Worlds.{World, ActivationState, begun, or_activation, activation_at, its_code, word_at, has_word, has_entered, with_word, with_block, got, all_got, entered, opening}
+use Rattle.tam_graph.specs.Graphs.{Graph, Code, code_of, kind_at, block_at, operands_of, fires, node_numbers}
+use Rattle.tam_flow.specs.Worlds.{World, ActivationState, begun, activation_at, its_code, word_at, has_word, has_entered, with_word, with_block, got, entered, opening}
 use Rattle.tam_eval.specs.GraphRuns.{is_enabled, joins_at, joins, nothing_begun}
 use Rattle.tam_eval.specs.Takers.{takers_of, firers_in, starters_of, is_none}
-use Rattle.tam_eval.proofs.Activations.{its_word, is_in, may_fire, newly, newly-same, newly-all, gate, is_fed, newly-word, newly-block, again-word, again-block, may_fire-begun}
-use Rattle.tam_eval.proofs.Accessors.{changed-cases, IsLive, with_begun, length-with_changed, changed-activation, other-activation, nothing-changed, length-begun, activation-begun, activation-begun_other, activation-past}
+use Rattle.tam_eval.proofs.Activations.{its_word, is_in, may_fire, newly, newly-same, newly-all, newly-word, newly-block, again-word, again-block, may_fire-begun}
+use Rattle.tam_eval.proofs.Enabled.{enabled-past}
+use Rattle.tam_eval.proofs.Accessors.{changed-cases, IsLive, with_begun, length-with_changed, changed-activation, other-activation, nothing-changed, length-begun, activation-begun, activation-begun_other}
 
 module _ (g : Graph) (w v : World) where
   -- an activation whose vertices may fire as before has none that join
@@ -141,14 +140,6 @@ begun-new c k f z before h =
         may_fire-begun c k f z x
         ∙ twice ((block_at c x == 0) && fires (kind_at c x)) (is_none (operands_of c (kind_at c x)))
         ∙ ap (λ t. ((block_at c x == 0) && fires (kind_at c x)) && t) (sym (may_fire-begun c k f z x))
-
--- an activation that isn't there has no vertex that may fire
-pub enabled-past : (g : Graph) (w : World) (j x : ℕ) → length w.activations ≤ j → is_enabled g w j x ≡ false
-enabled-past g w j x l = ap (λ a. may_fire (code_of g a.code) a x) (activation-past w j l) ∙ shut (fires (kind_at (code_of g 0) x)) (is_fed (code_of g 0) (or_activation None) x)
-  where
-    shut : (s t : Bool) → gate s false t ≡ false
-    shut true t = refl
-    shut false t = refl
 
 -- after an activation began, those of its body that may fire join
 pub joins-begun : (g : Graph) (w : World) (k f x : ℕ)

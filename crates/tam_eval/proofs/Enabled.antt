@@ -13,7 +13,9 @@ use Rattle.tam_eval.proofs.Accessors.{activation-past}
 
 -- an activation that isn't there has no vertex that may fire
 pub enabled-past : (g : Graph) (w : World) (j x : ℕ) → length w.activations ≤ j → is_enabled g w j x ≡ false
-enabled-past g w j x l = ap (λ a. may_fire (code_of g a.code) a x) (activation-past w j l) ∙ shut (fires (kind_at (code_of g 0) x)) (is_fed (code_of g 0) (or_activation None) x)
+enabled-past g w j x l =
+    ap (λ a. may_fire (code_of g a.code) a x) (activation-past w j l)
+    ∙ shut (fires (kind_at (code_of g 0) x)) (is_fed (code_of g 0) (or_activation None) x)
   where
     shut : (s t : Bool) → gate s false t ≡ false
     shut true t = refl

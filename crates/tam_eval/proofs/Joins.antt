@@ -1,5 +1,5 @@
 -- Which vertices join the ready list after each kind of event, by lists of takers and of the nodes of a block.
-use Rattle.std.proofs.Common.{nat_lt, tests, ◌≤◌, ◌≡◌, ◌≢◌, ℕ, ◌≤◌, Bool, true, false, ◌==◌, ◌&&◌, List, [], None, length, filter, map, refl, sym, ap, ◌∙◌}
+use Rattle.std.proofs.Common.{nat_lt, tests, ◌≡◌, ◌≢◌, ℕ, ◌≤◌, Bool, true, false, ◌==◌, ◌&&◌, List, [], None, length, filter, map, refl, sym, ap, ◌∙◌}
 use Rattle.std.proofs.Common.{subst, arith, ⊎_elim}
 use Rattle.tam_word.specs.Lists.{has}
 use Rattle.tam_word.proofs.Sifted.{filter-alike, filter-twice, filter-none, flat_map-below_none, flat_map-below_one}

@@ -1,0 +1,4 @@
+pub mod Totals
+pub mod RootWords
+pub mod BuiltCodes
+pub mod RootPlaces

@@ -2,3 +2,4 @@ pub mod Totals
 pub mod RootWords
 pub mod BuiltCodes
 pub mod RootPlaces
+pub mod RootStates

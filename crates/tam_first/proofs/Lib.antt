@@ -3,3 +3,4 @@ pub mod RootWords
 pub mod BuiltCodes
 pub mod RootPlaces
 pub mod RootStates
+pub mod Weights

@@ -4,3 +4,4 @@ pub mod BuiltCodes
 pub mod RootPlaces
 pub mod RootStates
 pub mod Weights
+pub mod Keeping

@@ -5,3 +5,4 @@ pub mod RootPlaces
 pub mod RootStates
 pub mod Weights
 pub mod Keeping
+pub mod RootSteps

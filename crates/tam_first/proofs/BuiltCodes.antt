@@ -25,6 +25,15 @@ length-sum : (f : ℕ → ℕ) (xs : List ℕ) → ((x : ℕ) → 1 ≤ f x) →
 length-sum f [] h = omega arith
 length-sum f (x ∷ xs) h = omega (arith, sum_by-cons f x xs, h x, length-sum f xs h)
 
+-- how many numbers are below n
+pub length-below : (n : ℕ) → length (below n) ≡ n
+length-below zero = refl
+length-below (suc n) = push (below n) ∙ ap suc (length-below n)
+  where
+    push : (xs : List ℕ) → length (xs ++ n ∷ []) ≡ suc (length xs)
+    push [] = refl
+    push (x ∷ xs) = ap suc (push xs)
+
 module _ (g : Graph) (acc : IsAccepted g) (built : IsBuilt g) where
   -- the code of `main`
   abbrev pub root : Code
@@ -115,11 +124,3 @@ module _ (g : Graph) (acc : IsAccepted g) (built : IsBuilt g) where
       one : (b : Bool) → 1 ≤ elim b [ true ↦ 2 | false ↦ 1 ]
       one true = omega arith
       one false = omega arith
-
-      length-below : (n : ℕ) → length (below n) ≡ n
-      length-below zero = refl
-      length-below (suc n) = push (below n) ∙ ap suc (length-below n)
-        where
-          push : (xs : List ℕ) → length (xs ++ n ∷ []) ≡ suc (length xs)
-          push [] = refl
-          push (x ∷ xs) = ap suc (push xs)

@@ -6,3 +6,4 @@ pub mod RootStates
 pub mod Weights
 pub mod Keeping
 pub mod RootSteps
+pub mod RootOpening

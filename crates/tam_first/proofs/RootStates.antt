@@ -71,7 +71,7 @@ abbrev pub once_more : RootState → List Item → RootState
 once_more t rest = record t { order = rest; events = t.events + 1 }
 
 -- nothing behind a list
-append-none : {X : Type 0} (xs : List X) → xs ++ [] ≡ xs
+pub append-none : {X : Type 0} (xs : List X) → xs ++ [] ≡ xs
 append-none [] = refl
 append-none (x ∷ xs) = ap (λ ys. x ∷ ys) (append-none xs)
 
@@ -81,7 +81,7 @@ map-append f [] ys = refl
 map-append f (x ∷ xs) ys = ap (λ zs. f x ∷ zs) (map-append f xs ys)
 
 -- tests that agree leave the same
-filter-same : (p q : ℕ → Bool) (xs : List ℕ) → ((x : ℕ) → p x ≡ q x) → filter p xs ≡ filter q xs
+pub filter-same : (p q : ℕ → Bool) (xs : List ℕ) → ((x : ℕ) → p x ≡ q x) → filter p xs ≡ filter q xs
 filter-same p q [] h = refl
 filter-same p q (x ∷ xs) h = go (q x) refl (filter-same p q xs h)
   where

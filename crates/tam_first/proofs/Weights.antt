@@ -89,7 +89,7 @@ pub operands-on : (c : Code) (ws : List (Option ℕ)) (x : ℕ) → fires (kind_
 operands-on c ws x f h = rw (is_on, f) h
 
 -- a node that doesn't fire isn't on
-off-fires : (c : Code) (ws : List (Option ℕ)) (x : ℕ) → fires (kind_at c x) ≡ false → is_on c ws x ≡ false
+pub off-fires : (c : Code) (ws : List (Option ℕ)) (x : ℕ) → fires (kind_at c x) ≡ false → is_on c ws x ≡ false
 off-fires c ws x f = rw (is_on, f) refl
 
 -- who was on is on

@@ -7,3 +7,4 @@ pub mod Weights
 pub mod Keeping
 pub mod RootSteps
 pub mod RootOpening
+pub mod RootRest

@@ -8,3 +8,4 @@ pub mod Keeping
 pub mod RootSteps
 pub mod RootOpening
 pub mod RootRest
+pub mod RootRules

@@ -9,3 +9,4 @@ pub mod RootSteps
 pub mod RootOpening
 pub mod RootRest
 pub mod RootRules
+pub mod FirstLaw

@@ -1,19 +1,20 @@
 -- The run of a graph that is built so far ends quiet, with exactly the results of the rules.
-use Rattle.std.proofs.Common.{◌≡◌, ◌≢◌, ◌↔◌, ℕ, zero, suc, ◌+◌, ◌*◌, ◌<◌, ◌≤◌, Bool, true, false, ◌==◌, not, List, [], ◌∷◌, length, filter, Some, None, slice_get, slice_index_or, refl, sym, ap, ◌∙◌, arith, subst, inl, inr, ◌⊎◌, true≢false}
+use Rattle.std.proofs.Common.{◌≡◌, ◌↔◌, ℕ, zero, suc, ◌+◌, ◌*◌, ◌<◌, ◌≤◌, Bool, true, false, ◌==◌, not, List, [], ◌∷◌, length, filter, Some, slice_get}
+use Rattle.std.proofs.Common.{slice_index_or, refl, sym, ap, ◌∙◌, arith, subst, inl, inr, ◌⊎◌}
 use Rattle.std.specs.List.{Contains}
+use Rattle.std.proofs.lemmas.Option.{none-some, same_Some}
 use Rattle.tam_word.specs.Lists.{below, any_of}
 use Rattle.tam_word.proofs.Tests.{number-eq, self-eq}
 use Rattle.tam_word.proofs.Members.{In, in-below, in-any, get-in}
 use Rattle.tam_msgs.specs.declared.item.Item.{Item}
 use Rattle.tam_msgs.specs.declared.limits.Limits.{Limits}
-use Rattle.tam_msgs.specs.Messages.{AreLimits}
 use Rattle.tam_msgs.specs.Runs.{End, Quiet, Outcome, Next, Ended, run_from, Report, missing_of}
 use Rattle.tam_graph.specs.declared.kind.Kind.TheVariants.{Give}
 use Rattle.tam_graph.specs.Graphs.{Graph, code_of, kind_at, results_of, AreArguments}
 use Rattle.tam_graph.specs.Accepted.{IsAccepted}
 use Rattle.tam_graph.specs.Built.{IsBuilt}
 use Rattle.tam_fire.specs.FiringRules.{Result}
-use Rattle.tam_eval.specs.GraphRuns.{GraphState, graph_step, graph_report, graph_told}
+use Rattle.tam_eval.specs.GraphRuns.{graph_step, graph_report, graph_told}
 use Rattle.tam_first.specs.FirstRuns.{IsFirstRun}
 use Rattle.tam_first.proofs.Totals.{one_if, total, in-total, total-some}
 use Rattle.tam_first.proofs.RootWords.{word}
@@ -23,7 +24,7 @@ use Rattle.tam_first.proofs.Weights.{line_of, to_come}
 use Rattle.tam_first.proofs.Keeping.{IsGiven, IsKept}
 use Rattle.tam_first.proofs.RootSteps.{HasNext, IsDone, step-is}
 use Rattle.tam_first.proofs.RootOpening.{first_state, opening-is, first-kept, few-to_come}
-use Rattle.tam_first.proofs.RootRest.{has-word, given-word, printed-once}
+use Rattle.tam_first.proofs.RootRest.{has-word, printed-once}
 use Rattle.tam_first.proofs.RootRules.{given-result, result-given}
 
 -- ---- runs
@@ -54,24 +55,19 @@ in-contains x [] i = absurd i
 in-contains x (y ∷ ys) (inl e) = (0, omega arith, e)
 in-contains x (y ∷ ys) (inr i) = let r = in-contains x ys i in (suc r.0, omega (arith, r.1), r.2)
 
--- where the elements count one at most, two that count are one
-one-place : {X : Type 0} (f : X → ℕ) (xs : List X) (i j : ℕ) (x y : X) → total f xs ≤ 1 → slice_get xs i ≡ Some x → slice_get xs j ≡ Some y → 1 ≤ f x → 1 ≤ f y → i ≡ j
-one-place f [] i j x y l p q m n = absurd (none-some p)
-  where
-    none-some : {A : Type 0} {a : A} → None ≡ Some a → ⊥
-    none-some z = cc
-one-place f (z ∷ xs) zero zero x y l p q m n = refl
-one-place f (z ∷ xs) zero (suc j) x y l p q m n =
-    let here : f z ≡ f x = ap f (some-eq p) in absurd (omega (arith, l, m, n, here, in-total f y xs (get-in xs j y q)))
-  where
-    some-eq : {A : Type 0} {a b : A} → Some a ≡ Some b → a ≡ b
-    some-eq e = cc
-one-place f (z ∷ xs) (suc i) zero x y l p q m n =
-    let here : f z ≡ f y = ap f (some-eq q) in absurd (omega (arith, l, m, n, here, in-total f x xs (get-in xs i x p)))
-  where
-    some-eq : {A : Type 0} {a b : A} → Some a ≡ Some b → a ≡ b
-    some-eq e = cc
-one-place f (z ∷ xs) (suc i) (suc j) x y l p q m n = ap suc (one-place f xs i j x y (omega arith) p q m n)
+-- what stands at a place counts
+abbrev CountsAt : {X : Type 0} → (X → ℕ) → List X → ℕ → Type 0
+CountsAt f xs i = (x : _) × (slice_get xs i ≡ Some x) × (1 ≤ f x)
+
+-- where the elements count one at most, two places that count are one
+one-place : {X : Type 0} (f : X → ℕ) (xs : List X) (i j : ℕ) → total f xs ≤ 1 → CountsAt f xs i → CountsAt f xs j → i ≡ j
+one-place f [] i j l p q = absurd (none-some p.0 p.1)
+one-place f (z ∷ xs) zero zero l p q = refl
+one-place f (z ∷ xs) zero (suc j) l p q =
+    let here : f z ≡ f p.0 = ap f (same_Some z p.0 p.1) in absurd (omega (arith, l, p.2, q.2, here, in-total f q.0 xs (get-in xs j q.0 q.1)))
+one-place f (z ∷ xs) (suc i) zero l p q =
+    let here : f z ≡ f q.0 = ap f (same_Some z q.0 q.1) in absurd (omega (arith, l, p.2, q.2, here, in-total f p.0 xs (get-in xs i p.0 p.1)))
+one-place f (z ∷ xs) (suc i) (suc j) l p q = ap suc (one-place f xs i j (omega arith) p q)
 
 -- where no element passes, none is left
 filter-none : (test : ℕ → Bool) (xs : List ℕ) → ((x : ℕ) → In x xs → test x ≡ false) → filter test xs ≡ []
@@ -98,7 +94,7 @@ module _ (g : Graph) (acc : IsAccepted g) (built : IsBuilt g) (args : List ℕ) 
     pub none_pending : last.pending ≡ []
 
   -- it ends where it is done
-  done-ends : (all n : ℕ) (t : RootState) → IsKept (code_of g g.main) args all t → (enough : all ≤ limits.budget) → IsDone g acc built args all limits enough t → HasEnd all n t
+  done-ends : (all n : ℕ) (t : RootState) → IsKept (code_of g g.main) args all t → (enough : all ≤ limits.budget) → IsDone g args all limits t → HasEnd all n t
   done-ends all n t kept enough done = record {
     last = t;
     runs = run-ended (graph_step g limits) n (shown g t) (shown g t) Quiet done.ends;
@@ -111,12 +107,12 @@ module _ (g : Graph) (acc : IsAccepted g) (built : IsBuilt g) (args : List ℕ) 
   run-ends : (all : ℕ) → all ≤ limits.budget → (n : ℕ) (t : RootState) → IsKept (code_of g g.main) args all t → all ≤ n + t.events → HasEnd all n t
   run-ends all enough zero t kept l = go (step-is g acc built args all limits enough t kept)
     where
-      go : HasNext g acc built args all limits enough t ⊎ IsDone g acc built args all limits enough t → HasEnd all zero t
+      go : HasNext g args all limits t ⊎ IsDone g args all limits t → HasEnd all zero t
       go (inl next) = absurd (omega (arith, l, next.kept.adds_up, next.counted))
       go (inr done) = done-ends all zero t kept enough done
   run-ends all enough (suc n) t kept l = go (step-is g acc built args all limits enough t kept) (λ s. run-ends all enough n s)
     where
-      go : HasNext g acc built args all limits enough t ⊎ IsDone g acc built args all limits enough t
+      go : HasNext g args all limits t ⊎ IsDone g args all limits t
           → ((s : RootState) → IsKept (code_of g g.main) args all s → all ≤ n + s.events → HasEnd all n s) → HasEnd all (suc n) t
       go (inl next) later =
           let rest = later next.after next.kept (omega (arith, l, next.counted)) in
@@ -152,13 +148,10 @@ module _ (g : Graph) (acc : IsAccepted g) (built : IsBuilt g) (args : List ℕ) 
     given-one k v w p q =
         let same = give-one g acc built p.node q.node k p.operand q.operand p.gives q.gives in
         let operand : p.operand ≡ q.operand = operand-eq (sym p.gives ∙ (ap (kind_at (code_of g g.main)) same ∙ q.gives)) in
-        some-eq (sym p.has ∙ (ap (word t.words) operand ∙ q.has))
+        same_Some v w (sym p.has ∙ (ap (word t.words) operand ∙ q.has))
       where
         operand-eq : {a b : ℕ} → Give k a ≡ Give k b → a ≡ b
         operand-eq e = cc
-
-        some-eq : {a b : ℕ} → Some a ≡ Some b → a ≡ b
-        some-eq e = cc
 
     -- each result has its line
     result-line : (k w : ℕ) → Result g args k w → Contains t.printed (k, w)
@@ -174,7 +167,7 @@ module _ (g : Graph) (acc : IsAccepted g) (built : IsBuilt g) (args : List ℕ) 
         let given = kept.printed k v (get-in {X = ℕ × ℕ} t.printed i (k, v) p) in
         let one = printed-once g acc built args all t kept none_ready none_pending given.node k given.operand given.gives in
         let here : one_if (k == k) ≡ 1 = ap one_if (self-eq k) in
-        one-place (line_of k) t.printed i j (k, v) (k, w) (omega (arith, one)) p q (omega (arith, here)) (omega (arith, here))
+        one-place (line_of k) t.printed i j (omega (arith, one)) ((k, v), p, omega (arith, here)) ((k, w), q, omega (arith, here))
 
     -- no result is missing
     missing-none : missing_of Quiet (results_of (code_of g g.main)) t.printed ≡ []
@@ -199,7 +192,7 @@ module _ (g : Graph) (acc : IsAccepted g) (built : IsBuilt g) (args : List ℕ) 
     )
 
     -- the report is that of such a run
-    report-right : all ≤ 3 * 128 → IsFirstRun g args limits report
+    report-right : all ≤ 2 * 128 → IsFirstRun g args limits report
     report-right few = record {
       quiet = refl;
       right = record {
@@ -217,11 +210,12 @@ module _ (g : Graph) (acc : IsAccepted g) (built : IsBuilt g) (args : List ℕ) 
   -- ---- the law
 
   -- each run of an accepted graph that is built so far is such a run
-  pub first-run : (order : List Item) → AreArguments g args → 3 * 128 ≤ limits.budget → IsFirstRun g args limits (graph_told g args order limits)
+  pub first-run : (order : List Item) → AreArguments g args → 2 * 128 ≤ limits.budget → IsFirstRun g args limits (graph_told g args order limits)
   first-run order suit enough =
       let few = few-to_come g acc built args suit order in
       let all : ℕ = to_come (code_of g g.main) (first_state g acc built args suit order) in
-      let end = run-ends all (omega (arith, few, enough)) limits.budget (first_state g acc built args suit order) (first-kept g acc built args suit order) (omega (arith, few, enough)) in
+      let end = run-ends all (omega (arith, few, enough)) limits.budget (first_state g acc built args suit order)
+      (first-kept g acc built args suit order) (omega (arith, few, enough)) in
       let told : graph_told g args order limits ≡ graph_report g (Quiet, shown g end.last) =
-          ap (λ s. graph_report g (run_from (graph_step g limits) limits.budget s)) (opening-is g acc built args suit order) ∙ ap (graph_report g) end.runs in
+      ap (λ s. graph_report g (run_from (graph_step g limits) limits.budget s)) (opening-is g acc built args suit order) ∙ ap (graph_report g) end.runs in
       subst (IsFirstRun g args limits) (sym told) (report-right all end.last end.kept end.none_ready end.none_pending few)

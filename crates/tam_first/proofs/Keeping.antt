@@ -1,28 +1,22 @@
 -- What holds of every state of the run: each word and message has its ground, each node's work is left or done, and the events add up.
-use Rattle.std.proofs.Common.{◌≡◌, ◌≢◌, ℕ, zero, suc, ◌+◌, ◌<◌, ◌≤◌, Bool, true, false, ◌==◌, not, nat_lt, List, [], ◌∷◌, ◌++◌, length, Some, None, slice_get, refl, sym, ap, ◌∙◌, arith, subst, inl, inr, ◌⊎◌, true≢false}
+use Rattle.std.proofs.Common.{◌≡◌, ℕ, zero, suc, ◌+◌, ◌≤◌, Bool, true, false, ◌==◌, nat_lt, List, [], ◌∷◌, length, Some, None, slice_get, refl, sym, ◌∙◌, arith}
+use Rattle.std.proofs.Common.{subst, inl, inr, ◌⊎◌}
 use Rattle.std.specs.Prelude.{Option}
-use Rattle.tam_word.specs.Lists.{all_of, without_place}
+use Rattle.std.proofs.lemmas.Option.{same_Some}
+use Rattle.tam_word.specs.Lists.{without_place}
 use Rattle.tam_word.specs.Words.{meaning}
-use Rattle.tam_word.specs.declared.op.Op.{Op}
-use Rattle.tam_word.proofs.Tests.{number-eq, eq-number, number-differs, below-test, test-below, self-eq}
-use Rattle.tam_word.proofs.Members.{In, in-append, in-filter, get-in, all-in}
+use Rattle.tam_word.proofs.Tests.{number-eq, number-differs}
+use Rattle.tam_word.proofs.Members.{In, in-append, in-filter}
 use Rattle.tam_msgs.specs.declared.message.Message.{Message}
 use Rattle.tam_msgs.specs.declared.message.Message.TheVariants.{Word as Carry}
-use Rattle.tam_msgs.specs.declared.item.Item.{Item}
-use Rattle.tam_msgs.specs.declared.limits.Limits.{Limits}
 use Rattle.tam_msgs.specs.Messages.{outside}
-use Rattle.tam_msgs.specs.Runs.{Next}
 use Rattle.tam_graph.specs.declared.kind.Kind.{Kind}
-use Rattle.tam_graph.specs.declared.kind.Kind.TheVariants.{Param, Const, Op as Operate, Seq, Call, Arg, Ret, Give, Alloc, Fetch, Store, Cond, Switch, Merge, Enter, Leave}
-use Rattle.tam_graph.specs.Graphs.{Code, Graph, code_of, kind_at, fires, operands_of, node_numbers}
-use Rattle.tam_graph.specs.Accepted.{IsAccepted}
-use Rattle.tam_graph.specs.Built.{IsBuilt}
-use Rattle.tam_eval.specs.GraphRuns.{graph_step}
-use Rattle.tam_first.proofs.Totals.{one_if, when, total, times, total-without, length-without}
-use Rattle.tam_first.proofs.RootWords.{word, has_one, with_one, with_one-same, with_one-other, Grows, with_one-grows, has-some, has-none}
-use Rattle.tam_first.proofs.RootPlaces.{give-one}
-use Rattle.tam_first.proofs.RootStates.{RootState, shown, is_on, turns_on, joined, moved, once_more}
-use Rattle.tam_first.proofs.Weights.{inlet, outlet, line_of, sent_by, waits, weight, events_at, to_come, sent_by-without, on-kept, turned-on, has-with_one, weight-moved, to_come-moved}
+use Rattle.tam_graph.specs.declared.kind.Kind.TheVariants.{Param, Const, Op as Operate, Seq, Give}
+use Rattle.tam_graph.specs.Graphs.{Code, kind_at, node_numbers}
+use Rattle.tam_first.proofs.Totals.{one_if, total}
+use Rattle.tam_first.proofs.RootWords.{word, has_one, with_one, with_one-same, with_one-other, Grows, with_one-grows}
+use Rattle.tam_first.proofs.RootStates.{RootState, is_on, turns_on, joined, moved}
+use Rattle.tam_first.proofs.Weights.{inlet, sent_by, weight, to_come, on-kept, turned-on, has-with_one, weight-moved, to_come-moved}
 
 -- ---- grounds
 
@@ -142,6 +136,7 @@ module _ (c : Code) (args : List ℕ) (all : ℕ) where
     abbrev pub Others : Type 0
     Others = (x w : ℕ) → word u.words x ≡ Some w → HasGround args u.words (kind_at c x) w
 
+    -- each word has its ground still
     words-with_one : Others → HasGround args (with_one u.words y v) (kind_at c y) v
         → (x w : ℕ) → word (with_one u.words y v) x ≡ Some w → HasGround args (with_one u.words y v) (kind_at c x) w
     words-with_one others ground x w h = go (x == y) refl
@@ -150,11 +145,9 @@ module _ (c : Code) (args : List ℕ) (all : ℕ) where
         go true e =
             let same : y ≡ x = sym (number-eq x y e) in
             let mine = subst (λ z. word (with_one u.words y v) z ≡ Some w) (sym same) h in
-            let equal : v ≡ w = some-eq (sym (with_one-same u.words y v) ∙ mine) in
-            subst (λ z. HasGround args (with_one u.words y v) (kind_at c z) w) same (subst (λ w. HasGround args (with_one u.words y v) (kind_at c y) w) equal ground)
-          where
-            some-eq : {a b : ℕ} → Some a ≡ Some b → a ≡ b
-            some-eq q = cc
+            let equal : v ≡ w = same_Some v w (sym (with_one-same u.words y v) ∙ mine) in
+            subst (λ z. HasGround args (with_one u.words y v) (kind_at c z) w) same
+            (subst (λ w. HasGround args (with_one u.words y v) (kind_at c y) w) equal ground)
         go false e =
             ground-kept args u.words (with_one u.words y v) (kind_at c x) w (with_one-grows u.words y v none)
             (others x w (sym (with_one-other u.words y v x (number-differs x y e)) ∙ h))

@@ -10,3 +10,4 @@ pub mod RootOpening
 pub mod RootRest
 pub mod RootRules
 pub mod FirstLaw
+pub mod FirstExamples

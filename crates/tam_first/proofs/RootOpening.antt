@@ -1,27 +1,31 @@
 -- The run begins with a state that keeps what holds of its states: the arguments are pending, the consts ready, and the events to come are few.
-use Rattle.std.proofs.Common.{◌≡◌, ◌≢◌, ℕ, zero, suc, ◌+◌, ◌*◌, ◌<◌, ◌≤◌, Bool, true, false, ◌==◌, not, nat_lt, List, [], ◌∷◌, ◌++◌, length, filter, flat_map, map, zip, Some, None, slice_get, refl, sym, ap, ◌∙◌, arith, subst, inl, inr, ◌⊎◌, true≢false}
-use Rattle.std.specs.Prelude.{Option, slice_index_or}
+use Rattle.std.proofs.Common.{◌≡◌, ◌≢◌, ℕ, zero, suc, ◌+◌, ◌*◌, ◌<◌, ◌≤◌, Bool, true, false, ◌==◌, not, nat_lt, List, [], ◌∷◌, ◌++◌, length, filter, flat_map}
+use Rattle.std.proofs.Common.{map, zip, Some, slice_get, refl, sym, ap, ◌∙◌, arith, subst, inl, inr, true≢false}
+use Rattle.std.specs.Prelude.{cond}
+use Rattle.std.specs.List.{count_by}
+use Rattle.std.proofs.lemmas.List.Sums.{sum_by-cons}
 use Rattle.std.proofs.lemmas.List.{length-append}
-use Rattle.tam_word.specs.Lists.{all_of, below, first_of}
-use Rattle.tam_word.proofs.Tests.{number-eq, eq-number, differs-number, number-differs, below-test, test-below, self-eq}
+use Rattle.std.proofs.lemmas.Option.{none-some}
+use Rattle.tam_word.specs.Lists.{below, first_of}
+use Rattle.tam_word.proofs.Tests.{number-eq, differs-number, number-differs, below-test, test-below, self-eq}
 use Rattle.tam_word.proofs.Members.{In, in-flat_map, in-map, in-filter}
 use Rattle.tam_msgs.specs.declared.message.Message.{Message}
 use Rattle.tam_msgs.specs.declared.message.Message.TheVariants.{Word as Carry}
 use Rattle.tam_msgs.specs.declared.item.Item.{Item}
 use Rattle.tam_graph.specs.declared.kind.Kind.{Kind}
 use Rattle.tam_graph.specs.declared.kind.Kind.TheVariants.{Param, Const, Op as Operate, Seq, Give}
-use Rattle.tam_graph.specs.Graphs.{Code, Graph, code_of, kind_at, fires, node_numbers, node_where, is_param, params_of, AreArguments}
+use Rattle.tam_graph.specs.Graphs.{Code, Graph, code_of, kind_at, fires, node_numbers, node_where, is_param, is_any_param, AreArguments}
 use Rattle.tam_graph.specs.Accepted.{IsAccepted}
-use Rattle.tam_graph.specs.Built.{IsBuilt, is_built_kind}
-use Rattle.tam_flow.specs.Worlds.{argument_message, opening}
-use Rattle.tam_eval.specs.GraphRuns.{GraphState, is_enabled, joins, nothing_begun, graph_opening}
-use Rattle.tam_first.proofs.Totals.{one_if, when, total, times, total-append, total-same, total-none, total-most, times-below, times-none, times-filter}
-use Rattle.tam_first.proofs.RootWords.{has_one}
+use Rattle.tam_graph.specs.Built.{IsBuilt}
+use Rattle.tam_flow.specs.Worlds.{argument_message}
+use Rattle.tam_eval.specs.GraphRuns.{GraphState, is_enabled, nothing_begun, graph_opening}
+use Rattle.tam_first.proofs.Totals.{one_if, when, total, times, total-append, total-same, total-plus, total-none, total-most, times-below, times-none}
+use Rattle.tam_first.proofs.Totals.{times-filter}
 use Rattle.tam_first.proofs.BuiltCodes.{built-at, few, length-below}
-use Rattle.tam_first.proofs.RootPlaces.{is-param, param-there, param-low, params-few, param-found, found-param}
+use Rattle.tam_first.proofs.RootPlaces.{is-param, param-there, param-low, param-found, found-param}
 use Rattle.tam_first.proofs.RootStates.{RootState, root_world, of_root, shown, is_on, append-none, filter-same, enabled-is}
-use Rattle.tam_first.proofs.Weights.{inlet, outlet, sent_by, waits, weight, spent, events_at, to_come, off-fires, past-idle}
-use Rattle.tam_first.proofs.Keeping.{IsArgument, IsSent, IsKept}
+use Rattle.tam_first.proofs.Weights.{inlet, outlet, sent_by, waits, spent, events_at, to_come, off-fires, past-idle}
+use Rattle.tam_first.proofs.Keeping.{IsSent, IsKept}
 
 -- ---- the arguments with their places
 
@@ -104,9 +108,20 @@ length-map : {X Y : Type 0} (f : X → Y) (xs : List X) → length (map f xs) �
 length-map f [] = refl
 length-map f (x ∷ xs) = ap suc (length-map f xs)
 
+-- and with places
 length-numbered : (n : ℕ) (ws : List ℕ) → length (numbered n ws) ≡ length ws
 length-numbered n [] = refl
 length-numbered n (w ∷ ws) = ap suc (length-numbered (suc n) ws)
+
+-- how many pass a test
+count-total : (test : ℕ → Bool) (xs : List ℕ) → count_by test xs ≡ total (λ x. one_if (test x)) xs
+count-total test [] = refl
+count-total test (x ∷ xs) = sum_by-cons (λ x. cond (test x) 1 0) x xs ∙ go (test x) refl (count-total test xs)
+  where
+    go : (b : Bool) → test x ≡ b → count_by test xs ≡ total (λ x. one_if (test x)) xs
+        → cond (test x) 1 0 + count_by test xs ≡ one_if (test x) + total (λ x. one_if (test x)) xs
+    go true e i = rw e (omega (arith, i))
+    go false e i = rw e (omega (arith, i))
 
 -- messages to nodes of the root
 total-inlets : (x w : ℕ) (ys : List ℕ) → total (inlet x) (map (λ y. Carry 0 y w) ys) ≡ times x ys
@@ -192,7 +207,8 @@ module _ (g : Graph) (acc : IsAccepted g) (built : IsBuilt g) (args : List ℕ) 
 
   -- none is of a result
   no-outlet : (d : Kind) → sent_by d arguments [] ≡ 0
-  no-outlet (Give k a) = let none = total-none (outlet k) arguments (λ m i. let r = argument-is m i in subst (λ m. outlet k m ≡ 0) r.3 refl) in omega (arith, none)
+  no-outlet (Give k a) =
+      let none = total-none (outlet k) arguments (λ m i. let r = argument-is m i in subst (λ m. outlet k m ≡ 0) r.3 refl) in omega (arith, none)
   no-outlet d = refl
 
   -- ---- the weights
@@ -246,31 +262,28 @@ module _ (g : Graph) (acc : IsAccepted g) (built : IsBuilt g) (args : List ℕ) 
   first-kept = record {
     weights = λ x. omega (arith, waits-or-ready x, fires-or-param x, no-outlet (kind_at c x));
     ready = λ x i. (in-filter (is_on c []) x (node_numbers c) i).1;
-    words = λ x u h. absurd (none-some h);
+    words = λ x u h. absurd (none-some u h);
     pending = λ m i. let r = argument-is m i in
         subst (λ m. IsSent c args [] m) r.3 (inl (record { to_root = refl; place = r.1; param = r.4; argument = r.5 }));
     printed = λ k v i. absurd i;
     adds_up = omega arith;
   }
-    where
-      none-some : {A : Type 0} {a : A} → None ≡ Some a → ⊥
-      none-some q = cc
 
-  -- the events to come are few
-  pub few-to_come : to_come c first_state ≤ 3 * 128
+  -- no more than two events for a node, an argument's delivery with them
+  pub few-to_come : to_come c first_state ≤ 2 * 128
   few-to_come =
-      let nodes = total-most (events_at c [] (filter (is_on c []) (node_numbers c))) 2 (node_numbers c) (λ x i. two (kind_at c x) _ (omega (arith, waits-or-ready x, most (fires (kind_at c x))))) in
+      let ready = filter (is_on c []) (node_numbers c) in
+      let nodes = total-most (λ x. events_at c [] ready x + one_if (is_any_param (kind_at c x))) 2 (node_numbers c)
+      (λ x i. two (kind_at c x) _ (waits-or-ready x)) in
+      let parts = total-plus (events_at c [] ready) (λ x. one_if (is_any_param (kind_at c x))) (node_numbers c) in
       let messages = length-flat (argument_message g) (zip (below (length args)) args) one in
       let places : length (zip (below (length args)) args) ≡ length args = ap length (zip-numbered args) ∙ length-numbered 0 args in
-      omega (arith, nodes, messages, places, suit.one_each, params-few g acc built, length-below (length c.nodes), few g acc built)
+      let params = count-total (λ x. is_any_param (kind_at c x)) (node_numbers c) in
+      omega (arith, nodes, parts, messages, places, suit.one_each, params, length-below (length c.nodes), few g acc built)
     where
-      two : (d : Kind) (n : ℕ) → n ≤ 1 → spent d n ≤ 2
-      two (Give k a) n l = omega arith
-      two d n l = omega arith
-
-      most : (b : Bool) → one_if b ≤ 1
-      most true = omega arith
-      most false = omega arith
+      two : (d : Kind) (n : ℕ) → n ≡ one_if (fires d) → spent d n + one_if (is_any_param d) ≤ 2
+      two (Give k a) n e = omega (arith, e)
+      two d n e = omega (arith, e)
 
       one : (kw : ℕ × ℕ) → length (argument_message g kw) ≤ 1
       one kw = omega (arith, length-map (λ x. Carry 0 x kw.1) (node_where c (is_param kw.0)), length-first (λ x. is_param kw.0 (kind_at c x)) (node_numbers c))

@@ -1,15 +1,17 @@
 -- The params and the results of a graph that is built so far have each of their places once.
-use Rattle.std.proofs.Common.{◌≡◌, ◌≢◌, ℕ, zero, suc, ◌<◌, ◌≤◌, Bool, true, false, ◌==◌, eqb, ◌&&◌, ◌||◌, not, nat_lt, List, [], ◌∷◌, ◌++◌, length, filter, map, refl, sym, ap, ◌∙◌, subst, arith, tests, inl, inr, ◌⊎◌, true≢false}
-use Rattle.std.specs.List.{AllByRecursion, IsDistinct, list_any, count_by}
-use Rattle.std.proofs.lemmas.List.Sums.{length-filter, count_by-le-length}
+use Rattle.std.proofs.Common.{◌≡◌, ℕ, suc, ◌<◌, Bool, true, false, ◌==◌, eqb, ◌||◌, nat_lt, List, [], ◌∷◌, length, filter, map, refl, sym, ap, ◌∙◌, subst}
+use Rattle.std.proofs.Common.{arith, tests, inl, inr, ◌⊎◌, true≢false}
+use Rattle.std.specs.List.{AllByRecursion, IsDistinct, list_any}
+use Rattle.std.proofs.lemmas.List.Sums.{length-filter}
 use Rattle.std.proofs.lemmas.Map.Steps.{length-le_from_distinct_below}
-use Rattle.tam_word.specs.Lists.{below, any_of, beyond, where_so, first_of, has}
-use Rattle.tam_word.proofs.Tests.{number-eq, eq-number, differs-number, number-differs, self-eq, below-test, test-below}
+use Rattle.tam_word.specs.Lists.{below, beyond, where_so, first_of}
+use Rattle.tam_word.proofs.Tests.{number-eq, differs-number, self-eq, test-below}
 use Rattle.tam_word.proofs.Each.{where_so-nil}
-use Rattle.tam_word.proofs.Members.{In, Distinct, distinct-below, distinct-filter, in-map, map-in, in-filter, filter-in, in-below, below-in, in-any, none-left, none-right, none-first, one-first, in-or-not, in-has}
+use Rattle.tam_word.proofs.Members.{In, Distinct, distinct-below, distinct-filter, in-map, in-filter, below-in, in-any, none-left, none-right, none-first}
+use Rattle.tam_word.proofs.Members.{one-first, in-or-not}
 use Rattle.tam_graph.specs.declared.kind.Kind.{Kind}
-use Rattle.tam_graph.specs.declared.kind.Kind.TheVariants.{Param, Const, Op as Operate, Seq, Call, Arg, Ret, Give, Alloc, Fetch, Store, Cond, Switch, Merge, Enter, Leave}
-use Rattle.tam_graph.specs.Graphs.{Graph, code_of, kind_at, block_at, node_numbers, node_where, is_param, is_any_give, is_any_param, params_of, results_of}
+use Rattle.tam_graph.specs.declared.kind.Kind.TheVariants.{Param, Give}
+use Rattle.tam_graph.specs.Graphs.{Graph, kind_at, block_at, node_numbers, node_where, is_param, is_any_give, params_of, results_of}
 use Rattle.tam_graph.specs.Accepted.{IsAccepted, Wrong_block, Place_twice, Place_range, is_wrong_block, is_place_twice, is_place_range, same_place}
 use Rattle.tam_graph.specs.Built.{IsBuilt}
 use Rattle.tam_graph.proofs.AcceptedFacts.{node-there}
@@ -70,29 +72,29 @@ full xs n k d low long l = go (in-or-not k xs)
 
 module _ (g : Graph) (acc : IsAccepted g) (built : IsBuilt g) where
   -- no earlier node stands for the same place
-  no-twice : (x : ℕ) → x < size g acc built → is_place_twice (root g acc built) x ≡ false
+  no-twice : (x : ℕ) → x < size g → is_place_twice (root g) x ≡ false
   no-twice x l =
-      let f = none-right (where_so (is_wrong_block (root g acc built) x) Wrong_block) _ (no-faults g acc built x l) in
-      where_so-nil (is_place_twice (root g acc built) x) Place_twice (none-left (where_so (is_place_twice (root g acc built) x) Place_twice) _ f)
+      let f = none-right (where_so (is_wrong_block (root g) x) Wrong_block) _ (no-faults g acc built x l) in
+      where_so-nil (is_place_twice (root g) x) Place_twice (none-left (where_so (is_place_twice (root g) x) Place_twice) _ f)
 
   -- and the place is in range
-  in-range : (x : ℕ) → x < size g acc built → is_place_range g (root g acc built) x (kind_at (root g acc built) x) ≡ false
+  in-range : (x : ℕ) → x < size g → is_place_range g (root g) x (kind_at (root g) x) ≡ false
   in-range x l =
-      let f = none-right (where_so (is_wrong_block (root g acc built) x) Wrong_block) _ (no-faults g acc built x l) in
-      let e = none-right (where_so (is_place_twice (root g acc built) x) Place_twice) _ f in
-      where_so-nil (is_place_range g (root g acc built) x (kind_at (root g acc built) x)) Place_range
-      (none-left (where_so (is_place_range g (root g acc built) x (kind_at (root g acc built) x)) Place_range) _ e)
+      let f = none-right (where_so (is_wrong_block (root g) x) Wrong_block) _ (no-faults g acc built x l) in
+      let e = none-right (where_so (is_place_twice (root g) x) Place_twice) _ f in
+      where_so-nil (is_place_range g (root g) x (kind_at (root g) x)) Place_range
+      (none-left (where_so (is_place_range g (root g) x (kind_at (root g) x)) Place_range) _ e)
 
   -- nodes that stand for one place are one
-  place-one : (x y : ℕ) → x < size g acc built → y < size g acc built
-      → ((b : Bool) → same_place b (kind_at (root g acc built) y) (kind_at (root g acc built) x) ≡ true)
-      → ((b : Bool) → same_place b (kind_at (root g acc built) x) (kind_at (root g acc built) y) ≡ true) → x ≡ y
+  place-one : (x y : ℕ) → x < size g → y < size g
+      → ((b : Bool) → same_place b (kind_at (root g) y) (kind_at (root g) x) ≡ true)
+      → ((b : Bool) → same_place b (kind_at (root g) x) (kind_at (root g) y) ≡ true) → x ≡ y
   place-one x y l m p q = go (nat_lt y x) refl (nat_lt x y) refl
     where
-      twice : (x y : ℕ) → ((b : Bool) → same_place b (kind_at (root g acc built) y) (kind_at (root g acc built) x) ≡ true) → y < x → is_place_twice (root g acc built) x ≡ true
+      twice : (x y : ℕ) → ((b : Bool) → same_place b (kind_at (root g) y) (kind_at (root g) x) ≡ true) → y < x → is_place_twice (root g) x ≡ true
       twice x y p less =
-          in-any (λ z. same_place (block_at (root g acc built) z == block_at (root g acc built) x) (kind_at (root g acc built) z) (kind_at (root g acc built) x))
-          (below x) y (below-in y x less) (p (block_at (root g acc built) y == block_at (root g acc built) x))
+          in-any (λ z. same_place (block_at (root g) z == block_at (root g) x) (kind_at (root g) z) (kind_at (root g) x))
+          (below x) y (below-in y x less) (p (block_at (root g) y == block_at (root g) x))
 
       go : (b : Bool) → nat_lt y x ≡ b → (c : Bool) → nat_lt x y ≡ c → x ≡ y
       go true e c d = absurd (true≢false (sym (twice x y p (test-below y x e)) ∙ no-twice x l))
@@ -100,19 +102,19 @@ module _ (g : Graph) (acc : IsAccepted g) (built : IsBuilt g) where
       go false e false d = grind (arith, tests)
 
   -- a param is a node
-  pub param-there : (x k : ℕ) → kind_at (root g acc built) x ≡ Param k → x < size g acc built
-  param-there x k e = node-there (root g acc built) x (λ z. cc)
+  pub param-there : (x k : ℕ) → kind_at (root g) x ≡ Param k → x < size g
+  param-there x k e = node-there (root g) x (λ z. cc)
 
   -- and a result
-  pub give-there : (x k a : ℕ) → kind_at (root g acc built) x ≡ Give k a → x < size g acc built
-  give-there x k a e = node-there (root g acc built) x (λ z. cc)
+  pub give-there : (x k a : ℕ) → kind_at (root g) x ≡ Give k a → x < size g
+  give-there x k a e = node-there (root g) x (λ z. cc)
 
   -- params of one place are one
-  pub param-one : (x y k : ℕ) → kind_at (root g acc built) x ≡ Param k → kind_at (root g acc built) y ≡ Param k → x ≡ y
+  pub param-one : (x y k : ℕ) → kind_at (root g) x ≡ Param k → kind_at (root g) y ≡ Param k → x ≡ y
   param-one x y k e d = place-one x y (param-there x k e) (param-there y k d) (λ b. rw (e, d) (self-eq k)) (λ b. rw (e, d) (self-eq k))
 
   -- results of one place are one
-  pub give-one : (x y k a b : ℕ) → kind_at (root g acc built) x ≡ Give k a → kind_at (root g acc built) y ≡ Give k b → x ≡ y
+  pub give-one : (x y k a b : ℕ) → kind_at (root g) x ≡ Give k a → kind_at (root g) y ≡ Give k b → x ≡ y
   give-one x y k a b e d = place-one x y (give-there x k a e) (give-there y k b d) (λ t. rw (e, d) (self-eq k)) (λ t. rw (e, d) (self-eq k))
 
   -- a number that isn't beyond the end is below it
@@ -124,63 +126,59 @@ module _ (g : Graph) (acc : IsAccepted g) (built : IsBuilt g) where
       go false e = absurd (true≢false (rw (beyond, e) at h))
 
   -- a param has an argument
-  pub param-low : (x k : ℕ) → kind_at (root g acc built) x ≡ Param k → k < params_of (root g acc built)
-  param-low x k e = not-beyond k (params_of (root g acc built)) (rw e at (in-range x (param-there x k e)))
+  pub param-low : (x k : ℕ) → kind_at (root g) x ≡ Param k → k < params_of (root g)
+  param-low x k e = not-beyond k (params_of (root g)) (rw e at (in-range x (param-there x k e)))
 
   -- a result's place is below their number
-  pub give-low : (x k a : ℕ) → kind_at (root g acc built) x ≡ Give k a → k < results_of (root g acc built)
-  give-low x k a e = not-beyond k (results_of (root g acc built)) (rw e at (in-range x (give-there x k a e)))
+  pub give-low : (x k a : ℕ) → kind_at (root g) x ≡ Give k a → k < results_of (root g)
+  give-low x k a e = not-beyond k (results_of (root g)) (rw e at (in-range x (give-there x k a e)))
 
   -- whether a node is a result
   abbrev gives : ℕ → Bool
-  gives x = is_any_give (kind_at (root g acc built) x)
+  gives x = is_any_give (kind_at (root g) x)
 
   -- its place
   abbrev place_at : ℕ → ℕ
-  place_at x = place_of (kind_at (root g acc built) x)
+  place_at x = place_of (kind_at (root g) x)
 
   -- each place is that of some result
-  pub give-at : (k : ℕ) → k < results_of (root g acc built) → (x a : ℕ) × (kind_at (root g acc built) x ≡ Give k a)
+  pub give-at : (k : ℕ) → k < results_of (root g) → (x a : ℕ) × (kind_at (root g) x ≡ Give k a)
   give-at k l =
-      let i = full (map place_at (filter gives (node_numbers (root g acc built)))) (results_of (root g acc built)) k
-      (distinct-map place_at (filter gives (node_numbers (root g acc built))) (distinct-filter gives (node_numbers (root g acc built)) (distinct-below (size g acc built))) one)
-      low (sym (length-filter gives (node_numbers (root g acc built))) ∙ sym (length-map place_at (filter gives (node_numbers (root g acc built))))) l in
-      let r = in-map place_at k (filter gives (node_numbers (root g acc built))) i in
-      let s = is-give (kind_at (root g acc built) r.0) (in-filter gives r.0 (node_numbers (root g acc built)) r.1).1 in
+      let i = full (map place_at (filter gives (node_numbers (root g)))) (results_of (root g)) k
+      (distinct-map place_at (filter gives (node_numbers (root g))) (distinct-filter gives (node_numbers (root g)) (distinct-below (size g))) one)
+      low (sym (length-filter gives (node_numbers (root g))) ∙ sym (length-map place_at (filter gives (node_numbers (root g))))) l in
+      let r = in-map place_at k (filter gives (node_numbers (root g))) i in
+      let s = is-give (kind_at (root g) r.0) (in-filter gives r.0 (node_numbers (root g)) r.1).1 in
       let same : s.0 ≡ k = ap place_of (sym s.2) ∙ r.2 in (r.0, s.1, s.2 ∙ ap (λ j. Give j s.1) same)
     where
       length-map : (f : ℕ → ℕ) (xs : List ℕ) → length (map f xs) ≡ length xs
       length-map f [] = refl
       length-map f (x ∷ xs) = ap suc (length-map f xs)
 
-      one : (x y : ℕ) → In x (filter gives (node_numbers (root g acc built))) → In y (filter gives (node_numbers (root g acc built))) → place_at x ≡ place_at y → x ≡ y
+      one : (x y : ℕ) → In x (filter gives (node_numbers (root g))) → In y (filter gives (node_numbers (root g))) → place_at x ≡ place_at y → x ≡ y
       one x y i j e =
-          let s = is-give (kind_at (root g acc built) x) (in-filter gives x (node_numbers (root g acc built)) i).1 in
-          let t = is-give (kind_at (root g acc built) y) (in-filter gives y (node_numbers (root g acc built)) j).1 in
+          let s = is-give (kind_at (root g) x) (in-filter gives x (node_numbers (root g)) i).1 in
+          let t = is-give (kind_at (root g) y) (in-filter gives y (node_numbers (root g)) j).1 in
           let same : s.0 ≡ t.0 = ap place_of (sym s.2) ∙ (e ∙ ap place_of t.2) in give-one x y t.0 s.1 t.1 (s.2 ∙ ap (λ k. Give k s.1) same) t.2
 
-      low : (q : ℕ) → In q (map place_at (filter gives (node_numbers (root g acc built)))) → q < results_of (root g acc built)
+      low : (q : ℕ) → In q (map place_at (filter gives (node_numbers (root g)))) → q < results_of (root g)
       low q i =
-          let r = in-map place_at q (filter gives (node_numbers (root g acc built))) i in
-          let s = is-give (kind_at (root g acc built) r.0) (in-filter gives r.0 (node_numbers (root g acc built)) r.1).1 in
-          subst (λ z. z < results_of (root g acc built)) (ap place_of (sym s.2) ∙ r.2) (give-low r.0 s.0 s.1 s.2)
-
-  -- no more params than nodes
-  pub params-few : params_of (root g acc built) ≤ length (node_numbers (root g acc built))
-  params-few = count_by-le-length (λ x. is_any_param (kind_at (root g acc built) x)) (node_numbers (root g acc built))
+          let r = in-map place_at q (filter gives (node_numbers (root g))) i in
+          let s = is-give (kind_at (root g) r.0) (in-filter gives r.0 (node_numbers (root g)) r.1).1 in
+          subst (λ z. z < results_of (root g)) (ap place_of (sym s.2) ∙ r.2) (give-low r.0 s.0 s.1 s.2)
 
   -- who is found for a place of the params
-  pub param-found : (x k : ℕ) → kind_at (root g acc built) x ≡ Param k → node_where (root g acc built) (is_param k) ≡ x ∷ []
-  param-found x k e = go (first_of (λ y. is_param k (kind_at (root g acc built) y)) (node_numbers (root g acc built))) refl
+  pub param-found : (x k : ℕ) → kind_at (root g) x ≡ Param k → node_where (root g) (is_param k) ≡ x ∷ []
+  param-found x k e = go (first_of (λ y. is_param k (kind_at (root g) y)) (node_numbers (root g))) refl
     where
-      go : (ys : List ℕ) → first_of (λ y. is_param k (kind_at (root g acc built) y)) (node_numbers (root g acc built)) ≡ ys → node_where (root g acc built) (is_param k) ≡ x ∷ []
+      go : (ys : List ℕ) → first_of (λ y. is_param k (kind_at (root g) y)) (node_numbers (root g)) ≡ ys → node_where (root g) (is_param k) ≡ x ∷ []
       go [] h =
-          let out = none-first (λ y. is_param k (kind_at (root g acc built) y)) (node_numbers (root g acc built)) h x (below-in x (size g acc built) (param-there x k e)) in
+          let out = none-first (λ y. is_param k (kind_at (root g) y)) (node_numbers (root g)) h x (below-in x (size g) (param-there x k e)) in
           absurd (true≢false (sym (self-eq k) ∙ rw e at out))
       go (y ∷ ys) h =
-          let r = one-first (λ y. is_param k (kind_at (root g acc built) y)) (node_numbers (root g acc built)) y ys h in
-          let same = param-one y x k (is-param k (kind_at (root g acc built) y) r.1) e in
-          h ∙ (ap (λ zs. y ∷ zs) (alone (λ y. is_param k (kind_at (root g acc built) y)) (node_numbers (root g acc built)) y ys h) ∙ ap (λ z. z ∷ []) same)
+          let r = one-first (λ y. is_param k (kind_at (root g) y)) (node_numbers (root g)) y ys h in
+          let same = param-one y x k (is-param k (kind_at (root g) y) r.1) e in
+          h ∙ (ap (λ zs. y ∷ zs) (alone (λ y. is_param k (kind_at (root g) y)) (node_numbers (root g)) y ys h) ∙ ap (λ z. z ∷ []) same)
         where
           alone : (test : ℕ → Bool) (xs : List ℕ) (y : ℕ) (ys : List ℕ) → first_of test xs ≡ y ∷ ys → ys ≡ []
           alone test [] y ys q = absurd cc
@@ -191,12 +189,12 @@ module _ (g : Graph) (acc : IsAccepted g) (built : IsBuilt g) where
               step false t i = i (rw (first_of, t) at q)
 
   -- who is found is a param of the place
-  pub found-param : (x k : ℕ) → In x (node_where (root g acc built) (is_param k)) → kind_at (root g acc built) x ≡ Param k
-  found-param x k i = go (first_of (λ y. is_param k (kind_at (root g acc built) y)) (node_numbers (root g acc built))) refl
+  pub found-param : (x k : ℕ) → In x (node_where (root g) (is_param k)) → kind_at (root g) x ≡ Param k
+  found-param x k i = go (first_of (λ y. is_param k (kind_at (root g) y)) (node_numbers (root g))) refl
     where
-      go : (ys : List ℕ) → first_of (λ y. is_param k (kind_at (root g acc built) y)) (node_numbers (root g acc built)) ≡ ys → kind_at (root g acc built) x ≡ Param k
+      go : (ys : List ℕ) → first_of (λ y. is_param k (kind_at (root g) y)) (node_numbers (root g)) ≡ ys → kind_at (root g) x ≡ Param k
       go [] h = absurd (rw h at i)
       go (y ∷ ys) h =
-          let r = one-first (λ y. is_param k (kind_at (root g acc built) y)) (node_numbers (root g acc built)) y ys h in
-          let found : node_where (root g acc built) (is_param k) ≡ y ∷ [] = param-found y k (is-param k (kind_at (root g acc built) y) r.1) in
-          elim (rw found at i) [ inl e ↦ subst (λ z. kind_at (root g acc built) z ≡ Param k) e (is-param k (kind_at (root g acc built) y) r.1) | inr none ↦ absurd none ]
+          let r = one-first (λ y. is_param k (kind_at (root g) y)) (node_numbers (root g)) y ys h in
+          let found : node_where (root g) (is_param k) ≡ y ∷ [] = param-found y k (is-param k (kind_at (root g) y) r.1) in
+          elim (rw found at i) [ inl e ↦ subst (λ z. kind_at (root g) z ≡ Param k) e (is-param k (kind_at (root g) y) r.1) | inr none ↦ absurd none ]

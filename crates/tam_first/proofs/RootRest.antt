@@ -1,23 +1,23 @@
 -- Where nothing is ready and nothing pending, each node with a value has its word, and each result was printed once.
-use Rattle.std.proofs.Common.{◌≡◌, ℕ, zero, suc, ◌+◌, ◌<◌, ◌≤◌, Bool, true, false, ◌==◌, ◌&&◌, not, nat_lt, List, [], ◌∷◌, length, Some, None, refl, sym, ap, ◌∙◌, arith, subst, inl, inr, true≢false}
+use Rattle.std.proofs.Common.{◌≡◌, ℕ, zero, suc, ◌+◌, ◌<◌, Bool, true, false, not, nat_lt, List, [], length, Some, None, refl, sym, ap, ◌∙◌, arith, inl, inr}
+use Rattle.std.proofs.Common.{true≢false}
 use Rattle.std.specs.Prelude.{Option}
 use Rattle.tam_word.specs.Lists.{all_of}
-use Rattle.tam_word.specs.declared.op.Op.{Op}
 use Rattle.tam_word.proofs.Tests.{both-true, below-test, test-below}
 use Rattle.tam_word.proofs.Members.{In, all-in}
 use Rattle.tam_graph.specs.declared.kind.Kind.{Kind}
 use Rattle.tam_graph.specs.declared.kind.Kind.TheVariants.{Param, Const, Op as Operate, Seq, Give}
-use Rattle.tam_graph.specs.Graphs.{Code, Graph, code_of, kind_at, fires, has_value, operands_of}
-use Rattle.tam_graph.specs.Written.{named_by, is_operand, is_line}
+use Rattle.tam_graph.specs.Graphs.{Code, Graph, code_of, kind_at, fires, has_value}
+use Rattle.tam_graph.specs.Written.{named_by, is_operand}
 use Rattle.tam_graph.specs.Accepted.{IsAccepted}
 use Rattle.tam_graph.specs.Built.{IsBuilt}
 use Rattle.tam_first.proofs.Totals.{one_if, when, total, times}
-use Rattle.tam_first.proofs.RootWords.{word, has_one, has-some, has-none}
+use Rattle.tam_first.proofs.RootWords.{word, has_one, has-some}
 use Rattle.tam_first.proofs.BuiltCodes.{built-at, earlier, line-at}
 use Rattle.tam_first.proofs.RootPlaces.{give-there}
 use Rattle.tam_first.proofs.RootStates.{RootState, is_on}
-use Rattle.tam_first.proofs.Weights.{inlet, line_of, sent_by, waits, weight, operands-on}
-use Rattle.tam_first.proofs.Keeping.{HasGround, IsKept}
+use Rattle.tam_first.proofs.Weights.{inlet, line_of, sent_by, waits, operands-on}
+use Rattle.tam_first.proofs.Keeping.{IsKept}
 
 -- an operand is a node with a value
 operand-is : (c : Code) (a : ℕ) → is_operand c a ≡ true → (a < length c.nodes) × (has_value (kind_at c a) ≡ true)
@@ -66,7 +66,8 @@ module _ (g : Graph) (acc : IsAccepted g) (built : IsBuilt g) (args : List ℕ) 
           → (d : Kind) → kind_at c x ≡ d → all_of (is_operand c) (named_by d) ≡ true → (a : ℕ) → In a (named_by d) → has_one t.words a ≡ true
       named before d e h a i = let r = operand-is c a (all-in (is_operand c) (named_by d) h a i) in before a (rw e i) r.0 r.1
 
-      go : (d : Kind) → kind_at c x ≡ d → ((a : ℕ) → In a (named_by (kind_at c x)) → a < length c.nodes → has_value (kind_at c a) ≡ true → has_one t.words a ≡ true)
+      go : (d : Kind) → kind_at c x ≡ d
+          → ((a : ℕ) → In a (named_by (kind_at c x)) → a < length c.nodes → has_value (kind_at c a) ≡ true → has_one t.words a ≡ true)
           → has_one t.words x ≡ true
       go (Param k) e before = has-word-by x m (Param k) e (rw e refl) refl
       go (Const w) e before = has-word-by x m (Const w) e (on-done c t.words x (operands-on c t.words x (rw e refl) (rw e refl))) refl

@@ -1,29 +1,27 @@
 -- The words of a state are values of the rules, and where each node with a value has its word there are no others.
-use Rattle.std.proofs.Common.{◌≡◌, ℕ, zero, suc, ◌+◌, ◌<◌, Bool, true, false, List, [], ◌∷◌, length, Some, None, slice_get, refl, sym, ap, ◌∙◌, arith, subst, inl, inr, true≢false}
+use Rattle.std.proofs.Common.{◌≡◌, ℕ, zero, suc, ◌<◌, true, false, List, [], ◌∷◌, length, Some, refl, sym, ap, ◌∙◌, arith, subst, inl, inr, true≢false}
 use Rattle.std.specs.Prelude.{Option, IsTrue}
 use Rattle.std.specs.List.{AllByRecursion}
-use Rattle.tam_word.specs.declared.op.Op.{Op}
+use Rattle.std.proofs.lemmas.Option.{same_Some}
 use Rattle.tam_word.specs.Words.{meaning}
 use Rattle.tam_word.proofs.Members.{In}
 use Rattle.tam_graph.specs.declared.kind.Kind.{Kind}
-use Rattle.tam_graph.specs.declared.kind.Kind.TheVariants.{Param, Const, Op as Operate, Seq, Call, Arg, Ret, Give, Alloc, Fetch, Store, Cond, Switch, Merge, Enter, Leave}
+use Rattle.tam_graph.specs.declared.kind.Kind.TheVariants.{Param, Const, Op as Operate, Seq, Call, Arg, Give, Alloc, Fetch, Cond, Switch, Enter, Leave}
 use Rattle.tam_graph.specs.Graphs.{Code, Graph, code_of, kind_at, block_at, has_value, is_outlet, operands_of}
 use Rattle.tam_graph.specs.Written.{named_by}
 use Rattle.tam_graph.specs.Accepted.{IsAccepted}
 use Rattle.tam_graph.specs.Built.{IsBuilt, is_built_kind}
 use Rattle.tam_graph.proofs.AcceptedFacts.{node-there}
-use Rattle.tam_fire.specs.FiringRules.{Path, Value, Word, Activation, Array, Fact, Begun, Entered, Val, Fired, Rule, body_is_entered, const_gives, op_gives, seq_gives, outlet_fires, call_begins, call_answers, arg_comes, result_comes, alloc_answers, fetch_answers, cond_enters, switch_comes, out_comes, node_of, block_of, the_code, values, Given, root_has_begun, param_has, Holds, Result}
+use Rattle.tam_fire.specs.FiringRules.{Path, Value, Word, Fact, Begun, Entered, Val, Fired, Rule, body_is_entered, const_gives, op_gives, seq_gives}
+use Rattle.tam_fire.specs.FiringRules.{outlet_fires, call_begins, call_answers, arg_comes, result_comes, alloc_answers, fetch_answers, cond_enters}
+use Rattle.tam_fire.specs.FiringRules.{switch_comes, out_comes, node_of, values, Given, root_has_begun, param_has, Holds, Result}
 use Rattle.tam_fire.proofs.Following.{holds-by, holds-induction}
-use Rattle.tam_fire.proofs.Inversion.{FiredSource, fired-from}
+use Rattle.tam_fire.proofs.Inversion.{fired-from}
 use Rattle.tam_first.proofs.RootWords.{word}
 use Rattle.tam_first.proofs.BuiltCodes.{built-at, earlier, block-zero}
 use Rattle.tam_first.proofs.Keeping.{HasGround, IsGiven}
 
--- what a list has that is there has one value
-some-eq : {a b : ℕ} → Some a ≡ Some b → a ≡ b
-some-eq q = cc
-
--- and equal words are equal numbers
+-- equal words are equal numbers
 word-eq : {a b : ℕ} → Word a ≡ Word b → a ≡ b
 word-eq q = cc
 
@@ -128,7 +126,7 @@ module _ (g : Graph) (acc : IsAccepted g) (built : IsBuilt g) (args : List ℕ) 
     given-root fact root_has_begun = refl
     given-root fact (param_has {x = x} {k = k} {w = w} e a) =
         let r = ground-at x (Param k) e (λ z. cc) refl in
-        record { at_root = refl; number = r.0; is_word = ap Word (some-eq (sym a ∙ r.2)); has = r.1 }
+        record { at_root = refl; number = r.0; is_word = ap Word (same_Some _ _ (sym a ∙ r.2)); has = r.1 }
 
     -- and what a rule gives
     rule-root : (from : List Fact) (fact : Fact) → Rule g from fact → AllByRecursion IsOfRoot from → IsOfRoot fact
@@ -138,12 +136,12 @@ module _ (g : Graph) (acc : IsAccepted g) (built : IsBuilt g) (args : List ℕ) 
         record { at_root = h.0; number = r.0; is_word = ap Word (sym r.2); has = r.1 }
     rule-root from fact (op_gives {q = q} {x = x} {l = l} {r = m} {a = a} {b = b} {o = o} e) h =
         let r = ground-at x (Operate o l m) (root-kind q x (Operate o l m) h.0 e) (λ z. cc) refl in
-        let left : a ≡ r.2.0 = word-eq h.1.0.is_word ∙ some-eq (sym h.1.0.has ∙ r.2.2) in
-        let right : b ≡ r.2.1 = word-eq h.1.1.0.is_word ∙ some-eq (sym h.1.1.0.has ∙ r.2.3) in
+        let left : a ≡ r.2.0 = word-eq h.1.0.is_word ∙ same_Some _ _ (sym h.1.0.has ∙ r.2.2) in
+        let right : b ≡ r.2.1 = word-eq h.1.1.0.is_word ∙ same_Some _ _ (sym h.1.1.0.has ∙ r.2.3) in
         record { at_root = h.0; number = r.0; is_word = ap Word ((ap (λ a. meaning o a b) left ∙ ap (λ b. meaning o r.2.0 b) right) ∙ sym r.2.4); has = r.1 }
     rule-root from fact (seq_gives {q = q} {x = x} {l = l} {r = m} {a = a} e) h =
         let r = ground-at x (Seq l m) (root-kind q x (Seq l m) h.0 e) (λ z. cc) refl in
-        record { at_root = h.0; number = r.0; is_word = h.1.0.is_word ∙ ap Word (some-eq (sym h.1.0.has ∙ r.2.1)); has = r.1 }
+        record { at_root = h.0; number = r.0; is_word = h.1.0.is_word ∙ ap Word (same_Some _ _ (sym h.1.0.has ∙ r.2.1)); has = r.1 }
     rule-root from fact (outlet_fires o l) h = h.0
     rule-root from fact (call_begins {q = q} {f = f} {c = d} e) h = absurd (not-built q f (Call d) h.0 e (λ z. cc) refl)
     rule-root from fact (call_answers {q = q} {f = f} {c = d} e) h = absurd (not-built q f (Call d) h.0 e (λ z. cc) refl)
@@ -169,5 +167,5 @@ module _ (g : Graph) (acc : IsAccepted g) (built : IsBuilt g) (args : List ℕ) 
     result-given k w h =
         let f = fired-from g args [] h.node (Word w ∷ []) h.fired in
         let operands : AllByRecursion (Holds g args) (values [] (operands_of c (Give k h.operand)) (Word w ∷ [])) =
-            subst (λ d. AllByRecursion (Holds g args) (values [] (operands_of c d) (Word w ∷ []))) h.gives f.operands in
+        subst (λ d. AllByRecursion (Holds g args) (values [] (operands_of c d) (Word w ∷ []))) h.gives f.operands in
         record { node = h.node; operand = h.operand; gives = h.gives; has = value-word h.operand w operands.0 }

@@ -1,5 +1,6 @@
 -- The states of the run of a graph with one activation, and what a step does to them.
-use Rattle.std.proofs.Common.{◌≡◌, ℕ, zero, suc, ◌+◌, ◌<◌, Bool, true, false, ◌==◌, not, List, [], ◌∷◌, ◌++◌, length, filter, map, Some, slice_get, refl, sym, ap, ◌∙◌, arith}
+use Rattle.std.proofs.Common.{◌≡◌, ℕ, zero, suc, ◌+◌, ◌<◌, Bool, true, false, ◌==◌, not, List, [], ◌∷◌, ◌++◌, length, filter, map, Some, slice_get, refl, sym}
+use Rattle.std.proofs.Common.{ap, ◌∙◌, arith}
 use Rattle.std.specs.Prelude.{Option, ◌%◌, slice_index_or}
 use Rattle.tam_word.specs.Lists.{all_of, without_place}
 use Rattle.tam_word.specs.Words.{meaning}
@@ -11,7 +12,7 @@ use Rattle.tam_msgs.specs.declared.item.Item.{Item}
 use Rattle.tam_msgs.specs.declared.item.Item.TheVariants.{Ready, Place}
 use Rattle.tam_msgs.specs.declared.limits.Limits.{Limits}
 use Rattle.tam_msgs.specs.Messages.{outside}
-use Rattle.tam_msgs.specs.Runs.{choice, Quiet, Outcome, Next, Ended}
+use Rattle.tam_msgs.specs.Runs.{choice, Quiet, Next, Ended}
 use Rattle.tam_graph.specs.declared.kind.Kind.{Kind}
 use Rattle.tam_graph.specs.declared.kind.Kind.TheVariants.{Const, Op as Operate, Seq, Give}
 use Rattle.tam_graph.specs.Graphs.{Code, Graph, code_of, kind_at, block_at, operands_of, fires, node_numbers}
@@ -158,7 +159,8 @@ module _ (g : Graph) (acc : IsAccepted g) (built : IsBuilt g) where
   -- and who joins
   pub joins-is : (ws more : List (Option ℕ)) → joins g (root_world g ws) (root_world g more) ≡ map of_root (joined (code_of g g.main) ws more)
   joins-is ws more =
-      append-none (map of_root (filter old (node_numbers (code_of g g.main)))) ∙ ap (map of_root) (filter-same old (turns_on (code_of g g.main) ws more) (node_numbers (code_of g g.main)) same)
+      append-none (map of_root (filter old (node_numbers (code_of g g.main))))
+      ∙ ap (map of_root) (filter-same old (turns_on (code_of g g.main) ws more) (node_numbers (code_of g g.main)) same)
     where
       old : ℕ → Bool
       old x = elim (is_enabled g (root_world g more) 0 x) [ false ↦ false | true ↦ not (is_enabled g (root_world g ws) 0 x) ]
@@ -171,7 +173,9 @@ module _ (g : Graph) (acc : IsAccepted g) (built : IsBuilt g) where
   -- the state after an event
   pub effect-is : (u : RootState) (more : List (Option ℕ)) (ms : List Message)
       → after_effect g (shown g u) (sends_only (root_world g more) ms) ≡ shown g (moved (code_of g g.main) u more ms)
-  effect-is u more ms = ap with_ready (ap (λ js. map of_root u.ready ++ js) (joins-is u.words more) ∙ sym (map-append of_root u.ready (joined (code_of g g.main) u.words more)))
+  effect-is u more ms =
+      ap with_ready (ap (λ js. map of_root u.ready ++ js) (joins-is u.words more)
+      ∙ sym (map-append of_root u.ready (joined (code_of g g.main) u.words more)))
     where
       with_ready : List (ℕ × ℕ) → GraphState
       with_ready rs = record { world = root_world g more; ready = rs; pending = u.pending ++ ms; order = u.order; printed = u.printed; events = u.events }
@@ -182,7 +186,8 @@ module _ (g : Graph) (acc : IsAccepted g) (built : IsBuilt g) where
     Now = Chosen t.order (some_ready (map of_root t.ready)) (length t.pending)
 
     -- the run ends
-    pub step-rests : choice t.order (some_ready (map of_root t.ready)) (length t.pending) ≡ (Choose_quiet, t.order) → graph_step g limits (shown g t) ≡ Ended Quiet (shown g t)
+    pub step-rests : choice t.order (some_ready (map of_root t.ready)) (length t.pending) ≡ (Choose_quiet, t.order)
+        → graph_step g limits (shown g t) ≡ Ended Quiet (shown g t)
     step-rests e = rw e refl
 
     module _ (rest : List Item) (room : (t.events == limits.budget) ≡ false) where
@@ -190,6 +195,7 @@ module _ (g : Graph) (acc : IsAccepted g) (built : IsBuilt g) where
       run-has_room : (s : GraphState) → (s.events == limits.budget) ≡ false → chosen g limits s (Choose_run, rest) ≡ fired_first g (counted s rest) s.ready
       run-has_room s r = rw (chosen, r) refl
 
+      -- nor at a delivery
       delivery-has_room : (s : GraphState) (k : ℕ) → (s.events == limits.budget) ≡ false
           → chosen g limits s (Choose_delivery k, rest) ≡ delivered_at g limits (counted s rest) k (slice_get s.pending k)
       delivery-has_room s k r = rw (chosen, r) refl
@@ -209,7 +215,8 @@ module _ (g : Graph) (acc : IsAccepted g) (built : IsBuilt g) where
       module _ (k : ℕ) (e : choice t.order (some_ready (map of_root t.ready)) (length t.pending) ≡ (Choose_delivery k, rest)) where
         -- a word comes to a node
         pub step-comes : (x v : ℕ) → slice_get t.pending k ≡ Some (Carry 0 x v)
-            → graph_step g limits (shown g t) ≡ Next (shown g (moved (code_of g g.main) (record (once_more t rest) { pending = without_place k t.pending }) (with_one t.words x v) []))
+            → graph_step g limits (shown g t)
+            ≡ Next (shown g (moved (code_of g g.main) (record (once_more t rest) { pending = without_place k t.pending }) (with_one t.words x v) []))
         step-comes x v m =
             ap (chosen g limits (shown g t)) e
             ∙ (delivery-has_room (shown g t) k room
@@ -218,6 +225,7 @@ module _ (g : Graph) (acc : IsAccepted g) (built : IsBuilt g) where
 
         -- a result comes to the outside
         pub step-prints : (p v : ℕ) → slice_get t.pending k ≡ Some (Carry outside p v)
-            → graph_step g limits (shown g t) ≡ Next (shown g (record (once_more t rest) { pending = without_place k t.pending; printed = t.printed ++ (p, v) ∷ [] }))
+            → graph_step g limits (shown g t)
+            ≡ Next (shown g (record (once_more t rest) { pending = without_place k t.pending; printed = t.printed ++ (p, v) ∷ [] }))
         step-prints p v m =
             ap (chosen g limits (shown g t)) e ∙ (delivery-has_room (shown g t) k room ∙ ap (delivered_at g limits (counted (shown g t) rest) k) m)

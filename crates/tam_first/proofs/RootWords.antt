@@ -2,7 +2,7 @@
 use Rattle.std.proofs.Common.{◌≡◌, ◌≢◌, ℕ, zero, suc, Bool, true, false, ◌==◌, List, [], ◌∷◌, refl, sym, ap, ◌∙◌, true≢false}
 use Rattle.std.specs.Prelude.{Option, Some, None, is_some, slice_index_or}
 use Rattle.tam_word.specs.Lists.{put_at, all_of}
-use Rattle.tam_word.proofs.Tests.{number-eq, number-differs, self-eq}
+use Rattle.tam_word.proofs.Tests.{number-eq, number-differs}
 
 -- the word that node x has got, if it has one
 abbrev pub word : List (Option ℕ) → ℕ → Option ℕ

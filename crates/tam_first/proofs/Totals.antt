@@ -1,9 +1,10 @@
 -- Sums over lists: how they go through appends, filters, and lists without one element.
-use Rattle.std.proofs.Common.{◌≡◌, ℕ, zero, suc, ◌+◌, ◌*◌, ◌<◌, ◌≤◌, Bool, true, false, ◌==◌, List, [], ◌∷◌, ◌++◌, Some, None, length, filter, slice_get, refl, sym, ap, ◌∙◌, arith, inl, inr, subst}
+use Rattle.std.proofs.Common.{◌≡◌, ℕ, zero, suc, ◌+◌, ◌*◌, ◌<◌, ◌≤◌, Bool, true, false, ◌==◌, List, [], ◌∷◌, ◌++◌, Some, length, filter, slice_get, refl, sym}
+use Rattle.std.proofs.Common.{ap, ◌∙◌, arith, inl, inr, subst}
 use Rattle.std.proofs.lemmas.Option.{none-some, same_Some}
 use Rattle.tam_word.specs.Lists.{below, without_place}
-use Rattle.tam_word.proofs.Members.{In, in-below, get-in}
-use Rattle.tam_word.proofs.Tests.{number-eq, eq-number, differs-number, self-eq}
+use Rattle.tam_word.proofs.Members.{In, in-below}
+use Rattle.tam_word.proofs.Tests.{number-eq, eq-number, differs-number}
 
 -- 1 or 0
 abbrev pub one_if : Bool → ℕ

@@ -1,18 +1,18 @@
 -- What is left to do at each node, and how an event changes it; how many events are to come.
-use Rattle.std.proofs.Common.{◌≡◌, ℕ, zero, suc, ◌+◌, ◌<◌, ◌≤◌, Bool, true, false, ◌==◌, not, nat_lt, List, [], ◌∷◌, ◌++◌, length, filter, Some, None, slice_get, refl, sym, ap, ◌∙◌, arith, subst, true≢false}
+use Rattle.std.proofs.Common.{◌≡◌, ℕ, ◌+◌, ◌<◌, Bool, true, false, ◌==◌, not, nat_lt, List, [], ◌∷◌, ◌++◌, length, Some, None, slice_get, refl, sym, ap, ◌∙◌}
+use Rattle.std.proofs.Common.{arith, subst, true≢false}
 use Rattle.std.specs.Prelude.{Option}
 use Rattle.std.proofs.lemmas.List.{length-append}
-use Rattle.tam_word.specs.Lists.{all_of, without_place, below}
+use Rattle.tam_word.specs.Lists.{all_of, without_place}
 use Rattle.tam_word.proofs.Tests.{number-eq, below-test, test-below, self-eq}
 use Rattle.tam_word.proofs.Each.{get-past}
-use Rattle.tam_word.proofs.Members.{In, in-below, in-filter}
 use Rattle.tam_msgs.specs.declared.message.Message.{Message}
 use Rattle.tam_msgs.specs.declared.message.Message.TheVariants.{Word as Carry}
 use Rattle.tam_msgs.specs.Messages.{outside}
 use Rattle.tam_graph.specs.declared.kind.Kind.{Kind}
 use Rattle.tam_graph.specs.declared.kind.Kind.TheVariants.{Give}
-use Rattle.tam_graph.specs.Graphs.{Code, kind_at, or_kind, operands_of, fires, node_numbers}
-use Rattle.tam_first.proofs.Totals.{one_if, when, total, times, total-append, total-without, total-same, total-plus, total-at, length-without, times-below, times-none, times-filter}
+use Rattle.tam_graph.specs.Graphs.{Code, kind_at, operands_of, fires, node_numbers}
+use Rattle.tam_first.proofs.Totals.{one_if, when, total, times, total-append, total-without, total-same, total-plus, total-at, times-below, times-filter}
 use Rattle.tam_first.proofs.RootWords.{word, has_one, with_one, with_one-same, with_one-other, Grows, all-kept}
 use Rattle.tam_first.proofs.RootStates.{RootState, is_on, turns_on, joined, moved}
 
@@ -165,7 +165,8 @@ pub to_come-moved : (c : Code) (u : RootState) (more : List (Option ℕ)) (ms : 
 to_come-moved c u more ms grow =
     omega (
       arith,
-      total-same (events_at c more (u.ready ++ joined c u.words more)) (events_at c u.words u.ready) (node_numbers c) (λ x i. ap (spent (kind_at c x)) (each x)),
+      total-same (events_at c more (u.ready ++ joined c u.words more)) (events_at c u.words u.ready) (node_numbers c)
+          (λ x i. ap (spent (kind_at c x)) (each x)),
       length-append u.pending ms,
     )
   where

@@ -4,7 +4,7 @@ ghost use Rattle.tam_edge.specs.Faults.{next_count, CountsRead};
 ghost use Rattle.tam_edge.specs.Reading.{KeepsPiece};
 ghost use Rattle.tam_edge.specs.Entries.{pairs_by, NoneNamed, IsFirstNamed};
 ghost use Rattle.tam_edge.specs.Held.{reversed_items, bytes_of, count_of};
-ghost use Rattle.tam_edge.specs.MemFiles.{FilesInMemory, bytes_left, fault_count, ReadsMemory};
+ghost use Rattle.tam_edge.specs.MemFiles.{FilesInMemory, bytes_left, fault_count, bytes_held, ReadsMemory};
 
 use crate::calls::{is_to_fail, next_count};
 use crate::entries::position_of;
@@ -37,7 +37,8 @@ impl MemFiles {
         ensures held { result.files ≡ pairs_by (λ bytes. bytes.items) files.items }
         ensures fail { result.fail ≡ fail.items }
         ensures uncalled { result.calls ≡ 0 }
-        ensures faultless { result.faults ≡ [] }
+        ensures left { (name : List ℕ) → ⟦<MemFiles as Files>⟧.left result name ≡ Some (bytes_held files.items name) }
+        ensures faultless { (name : List ℕ) → ⟦<MemFiles as Files>⟧.faults result name ≡ 0 }
     {
         reverse_all(&mut files);
         MemFiles {

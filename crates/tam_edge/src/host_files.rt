@@ -1,5 +1,5 @@
 // The files of the system. What they hold is not told.
-ghost use Rattle.std.specs.Prelude.{◌≡◌, ◌≢◌, ◌+◌, ◌-◌, ◌^◌, ◌≤◌, min, List, ℕ, [], length, None, IfOk, OnOk, OnErr};
+ghost use Rattle.std.specs.Prelude.{◌≡◌, ◌≢◌, ◌≤◌, List, ℕ, length, None, IfOk};
 ghost use Rattle.tam_edge.specs.Faults.{CountsRead, CountsFault};
 ghost use Rattle.tam_edge.specs.Reading.{KeepsPiece};
 ghost use Rattle.tam_edge.specs.Entries.{pairs_by, value_of, NoneNamed, IsFirstNamed};

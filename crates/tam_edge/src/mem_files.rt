@@ -1,5 +1,6 @@
 // Files in memory, of which chosen reads fail.
-ghost use Rattle.std.specs.Prelude.{◌≡◌, ◌≢◌, ◌↔◌, ◌+◌, ◌-◌, ◌^◌, ◌<◌, ◌≤◌, ◌⊎◌, min, List, ℕ, [], ◌∷◌, ◌++◌, length, map, reverse, take, Some, IfOk, OnOk, OnErr, IfSome, IfNone, IsTrue};
+ghost use Rattle.std.specs.Prelude.{◌≡◌, ◌≢◌, ◌↔◌, ◌<◌, ◌≤◌, ◌⊎◌, min, List, ℕ, [], ◌++◌, length, map, reverse, take};
+ghost use Rattle.std.specs.Prelude.{Some, IfOk, OnOk, OnErr, IfSome, IfNone, IsTrue};
 ghost use Rattle.tam_edge.specs.Faults.{next_count, CountsRead};
 ghost use Rattle.tam_edge.specs.Reading.{KeepsPiece};
 ghost use Rattle.tam_edge.specs.Entries.{pairs_by, NoneNamed, IsFirstNamed};
@@ -28,7 +29,12 @@ pub struct MemFiles {
 impl Model for MemFiles {
     ghost Value = { FilesInMemory };
 
-    ghost view = { λ m. record { files = pairs_by reversed_items m.files.items; fail = m.fail.items; calls = m.calls; faults = pairs_by (λ count. count) m.faults.items } };
+    ghost view = { λ memory. record {
+      files = pairs_by reversed_items memory.files.items;
+      fail = memory.fail.items;
+      calls = memory.calls;
+      faults = pairs_by (λ count. count) memory.faults.items;
+    } };
 }
 
 impl MemFiles {

@@ -10,6 +10,6 @@ pub mod Uncycled
 pub mod AcceptedFacts
 pub mod Depths
 pub mod Branches
-pub mod Lines
+pub mod NamedNodes
 pub mod BranchBlocks
 pub mod Padded

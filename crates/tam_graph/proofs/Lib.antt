@@ -17,3 +17,6 @@ pub mod SameBytes
 pub mod FewNodes
 pub mod FirstPlaces
 pub mod NodeNames
+pub mod LastNodes
+pub mod Indexing
+pub mod Counting

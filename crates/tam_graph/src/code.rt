@@ -1,10 +1,11 @@
 // A code.
 ghost use Rattle.std.specs.Prelude.{ℕ, ◌≡◌, ◌≤◌, length, IfSome};
-ghost use Rattle.std.specs.List.{position_or_len, count_by};
-ghost use Rattle.tam_graph.specs.Graphs.{params_of, results_of};
+ghost use Rattle.tam_graph.specs.Graphs.{params_of, results_of, is_any_param, is_any_give};
 ghost use Rattle.tam_graph.specs.Reading.{IsCode};
-ghost use Rattle.tam_graph.specs.Finding.{is_called, name_at};
+ghost use Rattle.tam_graph.specs.NodeLists.{number_where};
+ghost use Rattle.tam_graph.specs.Finding.{name_at};
 
+use crate::index::Index;
 use crate::{Kind, Name, Node};
 use std::marker::Model;
 
@@ -16,6 +17,9 @@ pub struct Code {
     name: Name,
     nodes: Vec<Node>,
     owners: Vec<Option<u32>>,
+    param_count: u32,
+    result_count: u32,
+    index: Index,
 }
 
 impl Model for Code {
@@ -23,11 +27,12 @@ impl Model for Code {
 
     ghost Value = { CodeRecord };
 
-    ghost use Rattle.tam_graph.specs.Reading.{IsCode};
+    ghost use Rattle.tam_graph.specs.KeptCodes.{kept_code, IsKept};
 
-    ghost view = { λ c. record { name = c.name; nodes = c.nodes.items; owners = c.owners.items } };
+    ghost view = { kept_code };
 
-    ghost invariant = { λ c. IsCode (record { name = c.name; nodes = c.nodes.items; owners = c.owners.items }) };
+    // The counts and the index are those of its nodes.
+    ghost invariant = { IsKept };
 }
 
 impl Code {
@@ -36,10 +41,16 @@ impl Code {
         requires of_text { IsCode (record { name = name; nodes = nodes.items; owners = owners.items }) }
         ensures value { result ≡ record { name = name; nodes = nodes.items; owners = owners.items } }
     {
+        let param_count = count_params(&nodes);
+        let result_count = count_results(&nodes);
+        let index = Index::of(&nodes);
         Code {
             name,
             nodes,
             owners,
+            param_count,
+            result_count,
+            index,
         }
     }
 
@@ -65,6 +76,20 @@ impl Code {
         &self.owners
     }
 
+    /// How many params it has.
+    pub fn params(&self) -> u32
+        ensures value { result ≡ params_of self.now }
+    {
+        self.param_count
+    }
+
+    /// How many results it has.
+    pub fn results(&self) -> u32
+        ensures value { result ≡ results_of self.now }
+    {
+        self.result_count
+    }
+
     /// The number of the node of this name.
     pub fn find(&self, name: &[u8]) -> Option<u32>
         ensures found { IfSome result (λ x. name_at self.now x ≡ Some name.now) }
@@ -72,32 +97,33 @@ impl Code {
         // No two nodes have one name.
         ensures only { (x : ℕ) → name_at self.now x ≡ Some name.now → result ≡ Some x }
     {
-        let x = place_called(&self.nodes, name);
-        if x < self.nodes.len() {
-            Some(x as u32)
-        } else {
-            None
-        }
+        let x = self.index.find(&self.nodes, name)?;
+        Some(u32::from(x))
     }
 }
 
-// The place of the first node of this name, or their count where none has it.
-fn place_called(nodes: &[Node], name: &[u8]) -> usize
-    ensures { result ≡ position_or_len (is_called name.now) nodes.now }
+fn count_params(nodes: &[Node]) -> u32
+    requires few { length nodes.now ≤ 1024 }
+    ensures value { result ≡ number_where is_any_param nodes.now }
 {
-    for x in 0..nodes.len() {
-        if is_called(&nodes[x], name) {
-            return x;
+    let mut count = 0;
+    for node in nodes {
+        if matches!(node.kind, Kind::Param { .. }) {
+            count += 1;
         }
     }
-    nodes.len()
+    count
 }
 
-fn is_called(node: &Node, name: &[u8]) -> bool
-    ensures { result ≡ is_called name.now node.now }
+fn count_results(nodes: &[Node]) -> u32
+    requires few { length nodes.now ≤ 1024 }
+    ensures value { result ≡ number_where is_any_give nodes.now }
 {
-    match &node.name {
-        Some(own) => own.is(name),
-        None => false,
+    let mut count = 0;
+    for node in nodes {
+        if matches!(node.kind, Kind::Give { .. }) {
+            count += 1;
+        }
     }
+    count
 }

@@ -1,10 +1,9 @@
-use Rattle.std.proofs.Common.{◌≡◌, ◌<◌, ◌≤◌, ℕ, Some, length, slice_get, refl, sym, ◌∙◌, ap, arith}
-use Rattle.tam_graph.specs.Finding.{is_called, name_at}
-use Rattle.tam_graph.proofs.FewNodes.{few-nodes}
+use Rattle.std.proofs.Common.{◌≡◌, ◌∙◌, Some, ap}
+use Rattle.tam_graph.specs.KeptCodes.{kept_code}
+use Rattle.tam_graph.proofs.NodeNames.{one-node}
 use Rattle.tam_graph.proofs.code.Code.find.Goals as goal
 
-pub overflow_cast-result : goal.overflow_cast-result
-overflow_cast-result c = ?
-
-pub returns-then-x-len-clause-found : goal.returns-then-x-len-clause-found
-returns-then-x-len-clause-found c = ?
+pub returns-clause-only : goal.returns-clause-only
+returns-clause-only c =
+    let found = rw c.deref.ensures.value at c.in_ok-x.ensures.found in
+    rw (← c.self.view_is) (λ x k. ap Some (c.from.ensures ∙ one-node (kept_code c.self.inside) c.self.invariant.of_text c.in_ok-x.x x c.args.name.now found k))

@@ -20,3 +20,4 @@ pub mod NodeNames
 pub mod LastNodes
 pub mod Indexing
 pub mod Counting
+pub mod CodeNames

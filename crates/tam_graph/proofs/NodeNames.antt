@@ -18,7 +18,7 @@ given-in (None ∷ ns) (suc y) a e = given-in ns y a e
 given-in (Some b ∷ ns) (suc y) a e = inr (given-in ns y a e)
 
 -- where names differ, none behind the first is the first, and those behind it differ
-differ-behind : (b : List ℕ) (bs : List (List ℕ)) → all_differ same_bytes (b ∷ bs) ≡ true → (any_of (same_bytes b) bs ≡ false) × (all_differ same_bytes bs ≡ true)
+pub differ-behind : (b : List ℕ) (bs : List (List ℕ)) → all_differ same_bytes (b ∷ bs) ≡ true → (any_of (same_bytes b) bs ≡ false) × (all_differ same_bytes bs ≡ true)
 differ-behind b bs h = go (any_of (same_bytes b) bs) refl
   where
     go : (t : Bool) → any_of (same_bytes b) bs ≡ t → (any_of (same_bytes b) bs ≡ false) × (all_differ same_bytes bs ≡ true)

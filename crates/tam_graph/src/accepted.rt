@@ -58,6 +58,7 @@ impl Accepted {
     pub fn params(&self, code: u32) -> u32
         requires in_range { code < length self.now.codes }
         ensures value { result ≡ params_of (code_of self.now code) }
+        ensures few { result ≤ 64 }
     {
         self.graph.code(code).params()
     }
@@ -66,6 +67,7 @@ impl Accepted {
     pub fn results(&self, code: u32) -> u32
         requires in_range { code < length self.now.codes }
         ensures value { result ≡ results_of (code_of self.now code) }
+        ensures few { result ≤ 64 }
     {
         self.graph.code(code).results()
     }

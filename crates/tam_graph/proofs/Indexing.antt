@@ -10,7 +10,7 @@ use Rattle.tam_graph.specs.declared.index.Index.{Index}
 use Rattle.tam_graph.specs.Finding.{name_of}
 use Rattle.tam_graph.specs.Hashes.{hash_of, has_hash, last_below, IsIndexOf}
 use Rattle.tam_graph.proofs.LastNodes.{last-here, last-other}
-use Rattle.tam_graph.proofs.NodeNames.{named-there}
+use Rattle.tam_graph.proofs.NodeNames.{named-within}
 
 -- the index of the nodes below n
 pub record IsIndexBelow (nodes : List Node) (n : ℕ) (lasts befores : List (Option ℕ)) : Type 0 where
@@ -110,5 +110,5 @@ pub index-whole : (nodes : List Node) (lasts befores : List (Option ℕ)) → Is
 index-whole nodes lasts befores i = record {
   room = i.sizes.1;
   last = i.last;
-  before = λ x name e. let n = named-there (slice_get nodes x) name e in i.before x name (slice_get_within nodes x n.0 n.1) e;
+  before = λ x name e. i.before x name (named-within nodes x name e) e;
 }

@@ -8,7 +8,7 @@ use Rattle.tam_word.proofs.Each.{last-or_before}
 use Rattle.tam_graph.specs.declared.node.Node.{Node}
 use Rattle.tam_graph.specs.Finding.{name_of}
 use Rattle.tam_graph.specs.Hashes.{hash_of, has_hash, last_below}
-use Rattle.tam_graph.proofs.NodeNames.{named-there}
+use Rattle.tam_graph.proofs.NodeNames.{named-within}
 
 -- where there is a last node, it is below n, its name has the hash, and no name behind it has
 pub record IsLast (nodes : List Node) (h n y : ℕ) : Type 0 where
@@ -64,7 +64,7 @@ pub next-first : (nodes : List Node) (name : List ℕ) (next : Option ℕ) → n
 next-first nodes name next e = record {
   bound = length nodes;
   next_is = e;
-  all_below = λ x k. let n = named-there (slice_get nodes x) name k in slice_get_within nodes x n.0 n.1;
+  all_below = λ x k. named-within nodes x name k;
 }
 
 -- a name that is the name passes the test of its hash
@@ -84,9 +84,7 @@ next-hashed nodes name next y e i =
 -- so it is a node
 pub next-within : (nodes : List Node) (name : List ℕ) (next : Option ℕ) (y : ℕ) → next ≡ Some y → IsNext nodes name next → y < length nodes
 next-within nodes name next y e i =
-    let o = next-hashed nodes name next y e i in
-    let n = named-there (slice_get nodes y) o.0 o.1 in
-    slice_get_within nodes y n.0 n.1
+    let o = next-hashed nodes name next y e i in named-within nodes y o.0 o.1
 
 -- where it hasn't the name, the one before it comes next
 pub next-before : (nodes : List Node) (name : List ℕ) (next : Option ℕ) (y : ℕ) (more : Option ℕ) → next ≡ Some y → IsNext nodes name next

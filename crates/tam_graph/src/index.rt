@@ -5,7 +5,7 @@ ghost use Rattle.tam_graph.specs.Hashes.{hash_of, IsIndexOf};
 
 use crate::Node;
 
-pub const MAX_NODES: usize = 1024;
+const MAX_NODES: usize = 1024;
 
 const HASHES: usize = 256;
 

@@ -1,0 +1,10 @@
+//! Runs of an accepted graph at a level, with the text that they write.
+//!
+//! Over the crates of graphs, messages and levels. The program's top call stands on this crate.
+//! Read `specs/Writing.antt` first: what a run wrote, by how it ended. Then `src/run.rt`.
+#![tactic(auto)]
+
+mod lines;
+mod outcome;
+
+pub use outcome::Outcome;

@@ -19,12 +19,13 @@ use Rattle.tam_flow.proofs.CatchUp.{Placed, all-caught, ran-old, ran-here, ran-n
 use Rattle.tam_flow.proofs.Moves.{Moves, JustOne, Fits, moves-fired, fits-later, for-later}
 use Rattle.tam_eval.specs.GraphRuns.{GraphState, is_enabled, joins, after_effect}
 use Rattle.tam_eval.proofs.Follows.{Enabled, is_enabled-parts, MessagesFit, Follows, graph_of}
-use Rattle.tam_eval.proofs.Steps.{Steps, runs-later, ready-later}
-use Rattle.tam_eval.proofs.Caught.{GoesOn, AllReached, reached-placed, goes-then, reached-on, reached-now, steps-then, caught-way, caught-messages}
-use Rattle.tam_eval.proofs.Sizes.{Few, fired-few}
-use Rattle.tam_eval.proofs.Sends.{sends-fit}
+use Rattle.tam_eval.proofs.KeptBySteps.{Steps, runs-later, ready-later}
+use Rattle.tam_eval.proofs.StepsCaughtUp.{GoesOn, AllReached, reached-placed, goes-then, reached-on, reached-now, steps-then, caught-way, caught-messages}
+use Rattle.tam_eval.proofs.WorldSizes.{Few, fired-few}
+use Rattle.tam_eval.proofs.FiringSends.{sends-fit}
 use Rattle.tam_eval.proofs.Charges.{Charge, HasFired, charge-fired, fired-one}
-use Rattle.tam_eval.proofs.Gives.{fired-gives, fired-arrays}
+use Rattle.tam_eval.proofs.FiringGives.{fired-gives}
+use Rattle.tam_flow.proofs.DeliveryChanges.{arrays-fired}
 
 -- the journal goes on from s to some state that the graph's state after an event follows
 pub record GoesTo (g : Graph) (s : State) (made : GraphState) : Type 0 where
@@ -64,6 +65,7 @@ module _ (g : Graph) (acc : IsAccepted g) (args : List ℕ) (s : State) (all : A
   here : IsThere s.world i × (is_enabled g s.world i x ≡ true)
   here = follows.stands.ready_enabled i x (inl refl)
 
+  -- the node that fires is enabled
   enabled : Enabled g s.world i x
   enabled = is_enabled-parts g s.world i x here.1
 
@@ -166,7 +168,7 @@ module _ (g : Graph) (acc : IsAccepted g) (args : List ℕ) (s : State) (all : A
       fits m (inr h) = fits-later g (JustOne i x) s.world after.world moves m (sends-fit g acc args s (reached-now g args s all few) i x here.0 m h)
 
       same-cell : (a j : ℕ) (rs : List Reader) → cell_at after.world a j ≡ Some (Empty rs) → cell_at s.world a j ≡ Some (Empty rs)
-      same-cell a j rs e = subst (λ (w : Arrays). slice_get (unwrap_or (slice_get w a) []) j ≡ Some (Empty rs)) (fired-arrays g s.world i x) e
+      same-cell a j rs e = subst (λ (w : Arrays). slice_get (unwrap_or (slice_get w a) []) j ≡ Some (Empty rs)) (arrays-fired g s.world i x) e
 
   -- the node has fired
   has-fired : (t : State) → Steps g (JustOne i x) s t → HasFired g t i x

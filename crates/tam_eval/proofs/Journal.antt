@@ -18,8 +18,8 @@ use Rattle.tam_flow.specs.RunJournals.{IsCharged, EndsSo}
 use Rattle.tam_flow.specs.Reached.{IsReached}
 use Rattle.tam_eval.specs.GraphRuns.{GraphState, graph_step, graph_opening, joins, nothing_begun}
 use Rattle.tam_eval.specs.GraphLaws.{GraphRunsAreJournals}
-use Rattle.tam_eval.proofs.Sizes.{Few}
-use Rattle.tam_eval.proofs.Caught.{AllReached, reached-now, reached-on}
+use Rattle.tam_eval.proofs.WorldSizes.{Few}
+use Rattle.tam_eval.proofs.StepsCaughtUp.{AllReached, reached-now, reached-on}
 use Rattle.tam_eval.proofs.Opening.{opening-follows, opening-same, opening-charge}
 use Rattle.tam_eval.proofs.Running.{EndFits, EndGoes, run-goes}
 use Rattle.tam_eval.proofs.Charges.{Charged}

@@ -1,12 +1,14 @@
 -- The activations of a graph at run time, where activations and arrays are numbers, and what a firing and a delivery do.
-use Rattle.std.specs.Prelude.{ℕ, Bool, true, false, ◌==◌, List, [], ◌∷◌, ◌++◌, map, flat_map, Option, Some, None, slice_get, slice_index_or, option_to_list, is_some, length}
+use Rattle.std.specs.Prelude.{ℕ, Bool, true, false, ◌==◌, List, [], ◌∷◌, ◌++◌, map, flat_map, Option, Some, None, slice_get, slice_index_or, option_to_list}
+use Rattle.std.specs.Prelude.{is_some, length}
 use Rattle.tam_word.specs.Lists.{changed_at, put_at}
 use Rattle.tam_graph.specs.declared.kind.Kind.{Kind}
 use Rattle.tam_graph.specs.declared.kind.Kind.TheVariants.{Const, Op as Operate, Seq, Call, Arg, Give, Alloc, Fetch, Store, Cond, Switch, Leave}
 use Rattle.tam_msgs.specs.declared.message.Message.{Message}
 use Rattle.tam_msgs.specs.declared.message.Message.TheVariants.{Word as Carry, Frame as Begin, Cells as Make, Fetch as Ask_cell, Store as Put_cell}
 use Rattle.tam_word.specs.Words.{meaning}
-use Rattle.tam_graph.specs.Graphs.{Code, Graph, code_of, kind_at, operands_of, callee_of, chosen_branch, owner_of, block_at, node_where, node_in, is_param, is_ret, is_enter, is_merge}
+use Rattle.tam_graph.specs.Graphs.{Code, Graph, code_of, kind_at, operands_of, callee_of, chosen_branch, owner_of, block_at, node_where, node_in, is_param}
+use Rattle.tam_graph.specs.Graphs.{is_ret, is_enter, is_merge}
 use Rattle.tam_msgs.specs.Messages.{outside, site, answers}
 use Rattle.tam_istr.specs.Cells.{Arrays, Access, Now, Deferred, Stored, Twice, NotBelow, NoArray, with_array, fetched_from, stored_into}
 

@@ -5,7 +5,7 @@ use Rattle.tam_word.proofs.Tests.{eq-number, both-true}
 use Rattle.tam_word.proofs.Members.{In, all-in, in-flat_map, in-map}
 use Rattle.tam_graph.specs.declared.kind.Kind.{Kind}
 use Rattle.tam_graph.specs.declared.kind.Kind.TheVariants.{Const, Op as Operate, Seq, Call, Arg, Give, Alloc, Fetch, Store, Cond, Switch, Leave}
-use Rattle.tam_graph.specs.Graphs.{Code, Graph, code_of, kind_at, operands_of, is_inlet, node_numbers}
+use Rattle.tam_graph.specs.Graphs.{Graph, code_of, kind_at, operands_of, is_inlet, node_numbers}
 use Rattle.tam_graph.specs.Graphs.{callee_of, callee_of_kind, node_where, is_param, is_ret}
 use Rattle.tam_graph.specs.Written.{is_line, is_call_node, is_operand}
 use Rattle.tam_graph.specs.Accepted.{IsAccepted}
@@ -18,8 +18,9 @@ use Rattle.tam_flow.specs.Worlds.{World, activation_at, its_code, word_of, words
 use Rattle.tam_flow.specs.Journals.{State}
 use Rattle.tam_flow.specs.Reached.{IsThere, IsReached}
 use Rattle.tam_flow.proofs.ActivationLists.{word_among}
-use Rattle.tam_flow.proofs.SingleRuns.{below-test}
+use Rattle.tam_word.proofs.Tests.{below-test}
 use Rattle.tam_flow.proofs.Moves.{Fits, param-where, ret-where}
+use Rattle.tam_flow.proofs.Nodes.{call-operand}
 
 -- ---- words of operands
 
@@ -65,25 +66,18 @@ pub line-at : (g : Graph) → IsAccepted g → (n x : ℕ) → n < length g.code
 line-at g acc n x l m = all-in (λ (y : ℕ). is_line (length g.codes) (code_of g n) (kind_at (code_of g n) y)) (node_numbers (code_of g n))
     ((acc.written n (below-test n (length g.codes) l)).lines) x m
 
--- a call node is a call
-call-node : (c : Code) (f : ℕ) → is_call_node c f ≡ true → (d : ℕ) × (kind_at c f ≡ Call d)
-call-node c f h = go (kind_at c f) refl
-  where
-    go : (k : Kind) → kind_at c f ≡ k → (d : ℕ) × (kind_at c f ≡ Call d)
-    go (Call d) e = (d, e)
-    go k e = let t = rw e at (both-true (nat_lt f (length c.nodes)) _ h).1 in absurd (true≢false (sym t))
-
--- so is what an arg names
+-- whether a node is an arg
 abbrev is_arg_kind : Kind → Bool
 is_arg_kind (Arg f k a) = true
 is_arg_kind _ = false
 
+-- an arg names a call
 arg-call : (g : Graph) → IsAccepted g → (n x f k a : ℕ) → n < length g.codes → kind_at (code_of g n) x ≡ Arg f k a → (d : ℕ) ×
     (kind_at (code_of g n) f ≡ Call d)
 arg-call g acc n x f k a l e =
     let h = line-at g acc n x l (kind-there (code_of g n) x is_arg_kind refl (ap is_arg_kind e)) in
     let p = both-true (is_call_node (code_of g n) f) (is_operand (code_of g n) a && nat_lt k 64) (rw e at h) in
-    call-node (code_of g n) f p.0
+    call-operand (code_of g n) f p.0
 
 -- ---- what is sent fits
 

@@ -11,24 +11,30 @@ use Rattle.tam_graph.specs.Graphs.{Graph, kind_at, operands_of, chosen_branch, n
 use Rattle.tam_split.specs.Blocks.{BlockGraph, vertex_at}
 use Rattle.tam_split.specs.GraphPartitions.{Partitions, firing_order}
 use Rattle.tam_split.specs.Partitions.{class_at}
-use Rattle.tam_flow.specs.Worlds.{World, Effect, Delivery, Went, Printed, Faulted, with_word, with_block, got, entered, all_got, its_code, words_of, merges_of, firing_of, fired_with, fired, accessed, delivered, begun}
-use Rattle.tam_flow.specs.Journals.{State, Event, Run, Deliver, fire_each, class_fired, block_of_act, parts_of_act, or_message, after_delivery, deliver_all, after_event, state_from}
+use Rattle.tam_flow.specs.Worlds.{World, Effect, Delivery, Went, Printed, Faulted, with_word, with_block, got, entered, all_got, its_code, words_of, merges_of}
+use Rattle.tam_flow.specs.Worlds.{firing_of, fired_with, fired, accessed, delivered, begun}
+use Rattle.tam_flow.specs.Journals.{State, Event, Run, Deliver, fire_each, class_fired, block_of_act, parts_of_act, or_message, after_delivery, deliver_all}
+use Rattle.tam_flow.specs.Journals.{after_event, state_from}
 use Rattle.tam_word.proofs.Each.{length-changed_at}
 
 -- how many activations a world has
 abbrev pub size : World → ℕ
 size w = length w.activations
 
+-- a word leaves as many activations
 pub size-got : (w : World) (i x v : ℕ) → size (got w i x v) ≡ size w
 size-got w i x v = length-changed_at i (with_word x v) w.activations
 
+-- so does a block that is entered
 size-entered : (w : World) (i b : ℕ) → size (entered w i b) ≡ size w
 size-entered w i b = length-changed_at i (with_block b) w.activations
 
+-- so do several words
 size-all_got : (w : World) (i : ℕ) (xs : List ℕ) (v : ℕ) → size (all_got w i xs v) ≡ size w
 size-all_got w i [] v = refl
 size-all_got w i (x ∷ xs) v = size-all_got (got w i x v) i xs v ∙ size-got w i x v
 
+-- so does a firing, by what the node does
 size-firing : (g : Graph) (w : World) (i x : ℕ) (k : Kind) (vs : List ℕ) → size (firing_of g w i x k vs).world ≡ size w
 size-firing g w i x (Const v) [] = size-got w i x v
 size-firing g w i x (Operate o l r) (u ∷ v ∷ []) = size-got w i x _
@@ -44,6 +50,7 @@ size-firing g w i x (Switch d k a) (u ∷ v ∷ []) = size-all_got w i (node_in 
 size-firing g w i x (Leave k a) (v ∷ []) = size-all_got w i (merges_of (its_code g w i) k (owner_of (its_code g w i) (block_at (its_code g w i) x))) v
 size-firing g w i x k vs = refl
 
+-- whatever the node is
 size-fired : (g : Graph) (w : World) (i x : ℕ) → size (fired g w i x).world ≡ size w
 size-fired g w i x = go (words_of w i (operands_of (its_code g w i) (kind_at (its_code g w i) x)))
   where
@@ -58,6 +65,7 @@ then_one g b i e x = elim (vertex_at b x).inlet [
   | false ↦ record { world = (fired g e.world i (vertex_at b x).node).world; sends = e.sends ++ (fired g e.world i (vertex_at b x).node).sends }
 ]
 
+-- so does one more vertex that fires
 size-one : (g : Graph) (b : BlockGraph) (i : ℕ) (e : Effect) (x : ℕ) → size (then_one g b i e x).world ≡ size e.world
 size-one g b i e x = go (vertex_at b x).inlet refl
   where
@@ -65,6 +73,7 @@ size-one g b i e x = go (vertex_at b x).inlet refl
     go true d = rw (then_one, d) refl
     go false d = rw (then_one, d) (size-fired g e.world i (vertex_at b x).node)
 
+-- so do several
 pub size-each : (g : Graph) (b : BlockGraph) (i : ℕ) (e : Effect) (xs : List ℕ) → size (fire_each g b i e xs).world ≡ size e.world
 size-each g b i e [] = refl
 size-each g b i e (x ∷ xs) = size-each g b i (then_one g b i e x) xs ∙ size-one g b i e x
@@ -75,6 +84,7 @@ Bigger w (Went e) = size w ≤ size e.world
 Bigger w (Printed k v) = Unit {0}
 Bigger w (Faulted f) = Unit {0}
 
+-- an access takes no activation away
 size-accessed : (w : World) (s i : ℕ) (r : ℕ × ℕ) (v : ℕ) (a : Access) → Bigger w (accessed w s i r v a)
 size-accessed w s i r v (Now u) = omega arith
 size-accessed w s i r v (Deferred arrays) = omega arith
@@ -83,6 +93,7 @@ size-accessed w s i r v (Twice first) = tt
 size-accessed w s i r v (NotBelow n) = tt
 size-accessed w s i r v NoArray = tt
 
+-- nor does a delivery
 size-delivered : (w : World) (m : Message) → Bigger w (delivered w m)
 size-delivered w (Carry f x v) = go (f == outside) refl
   where

@@ -1,14 +1,14 @@
--- A const, an operator or a seq that fires gives its node a word; no firing changes arrays.
+-- A const, an operator or a seq that fires gives its node a word.
 use Rattle.std.proofs.Common.{◌≡◌, ℕ, zero, suc, ◌<◌, true, List, [], ◌∷◌, ◌++◌, refl, sym, subst, ap, inl, inr, ◌∙◌, true≢false}
 use Rattle.std.proofs.Common.{length, map, flat_map, slice_get, Some, arith}
 use Rattle.tam_word.specs.Lists.{changed_at}
 use Rattle.tam_word.proofs.Members.{In}
 use Rattle.tam_graph.specs.declared.kind.Kind.{Kind}
-use Rattle.tam_graph.specs.declared.kind.Kind.TheVariants.{Const, Op as Operate, Seq, Call, Arg, Give, Alloc, Fetch, Store, Cond, Switch, Leave}
-use Rattle.tam_graph.specs.Graphs.{Graph, kind_at, operands_of, block_at, node_in, chosen_branch, is_enter, owner_of}
+use Rattle.tam_graph.specs.declared.kind.Kind.TheVariants.{Const, Op as Operate, Seq}
+use Rattle.tam_graph.specs.Graphs.{Graph, kind_at, operands_of}
 use Rattle.tam_split.proofs.Firers.{is_inner}
-use Rattle.tam_flow.specs.Worlds.{World, ActivationState, or_activation, activation_at, its_code, words_of, has_word, with_word, got, all_got}
-use Rattle.tam_flow.specs.Worlds.{firing_of, fired_with, fired, merges_of}
+use Rattle.tam_flow.specs.Worlds.{World, ActivationState, or_activation, activation_at, its_code, words_of, has_word, with_word, got}
+use Rattle.tam_flow.specs.Worlds.{firing_of, fired_with, fired}
 use Rattle.tam_flow.specs.Reached.{IsThere}
 use Rattle.tam_flow.proofs.ActivationLists.{has_among, has-word, has-here}
 
@@ -56,33 +56,3 @@ module _ (g : Graph) (w : World) (i x : ℕ) (there : IsThere w i) where
   fired-gives n h =
       let r = some-words w i (operands_of (its_code g w i) (kind_at (its_code g w i) x)) h in
       subst (λ l. has_word (fired_with g w i x l).world i x ≡ true) (sym r.1) (gives (kind_at (its_code g w i) x) r.0 n r.2)
-
--- words change no arrays
-all_got-arrays : (w : World) (i : ℕ) (xs : List ℕ) (u : ℕ) → (all_got w i xs u).arrays ≡ w.arrays
-all_got-arrays w i [] u = refl
-all_got-arrays w i (x ∷ xs) u = all_got-arrays (got w i x u) i xs u
-
-module _ (g : Graph) (w : World) (i x : ℕ) where
-  -- nor does a firing, by what the node does
-  firing-arrays : (k : Kind) (vs : List ℕ) → (firing_of g w i x k vs).world.arrays ≡ w.arrays
-  firing-arrays (Const v) [] = refl
-  firing-arrays (Operate o a b) (u ∷ v ∷ []) = refl
-  firing-arrays (Seq a b) (u ∷ v ∷ []) = refl
-  firing-arrays (Call c) [] = refl
-  firing-arrays (Arg f k a) (v ∷ p ∷ []) = refl
-  firing-arrays (Give k a) (v ∷ []) = refl
-  firing-arrays (Alloc n) (v ∷ []) = refl
-  firing-arrays (Fetch a j) (u ∷ v ∷ []) = refl
-  firing-arrays (Store a j b) (t ∷ u ∷ v ∷ []) = refl
-  firing-arrays (Cond p y n) (v ∷ []) = refl
-  firing-arrays (Switch c k a) (u ∷ v ∷ []) = all_got-arrays w i (node_in (its_code g w i) (chosen_branch (its_code g w i) c u) (is_enter k)) v
-  firing-arrays (Leave k a) (v ∷ []) = all_got-arrays w i (merges_of (its_code g w i) k (owner_of (its_code g w i) (block_at (its_code g w i) x))) v
-  firing-arrays k vs = refl
-
-  -- whatever the node is
-  pub fired-arrays : (fired g w i x).world.arrays ≡ w.arrays
-  fired-arrays = go (words_of w i (operands_of (its_code g w i) (kind_at (its_code g w i) x)))
-    where
-      go : (l : List (List ℕ)) → (fired_with g w i x l).world.arrays ≡ w.arrays
-      go [] = refl
-      go (vs ∷ more) = firing-arrays (kind_at (its_code g w i) x) vs

@@ -11,8 +11,9 @@ use Rattle.tam_istr.specs.Cells.{Arrays, Cell, Empty, Filled, Access, Now, Defer
 use Rattle.tam_istr.specs.Cells.{fetch_of, store_of, in_array, fetched_from, stored_into}
 use Rattle.tam_flow.specs.Worlds.{World, Delivery, Went, Printed, Faulted, its_code, begun, with_word, got, all_got, merges_of, words_of}
 use Rattle.tam_flow.specs.Worlds.{firing_of, fired_with, fired, accessed, delivered}
-use Rattle.tam_flow.proofs.Moves.{length-changed, length-push}
-use Rattle.tam_eval.proofs.Gives.{fired-arrays}
+use Rattle.tam_flow.proofs.Moves.{length-push}
+use Rattle.tam_flow.proofs.DeliveryChanges.{arrays-fired}
+use Rattle.tam_word.proofs.Each.{length-changed_at}
 
 -- as few as the invariant of journals asks for
 pub record Few (w : World) : Type 0 where
@@ -24,21 +25,21 @@ pub record Few (w : World) : Type 0 where
 -- words make no activation
 all_got-size : (w : World) (i : ℕ) (xs : List ℕ) (u : ℕ) → length (all_got w i xs u).activations ≡ length w.activations
 all_got-size w i [] u = refl
-all_got-size w i (x ∷ xs) u = all_got-size (got w i x u) i xs u ∙ length-changed i (with_word x u) w.activations
+all_got-size w i (x ∷ xs) u = all_got-size (got w i x u) i xs u ∙ length-changed_at i (with_word x u) w.activations
 
 module _ (g : Graph) (w : World) (i x : ℕ) where
   -- nor does a firing, by what the node does
   firing-size : (k : Kind) (vs : List ℕ) → length (firing_of g w i x k vs).world.activations ≡ length w.activations
-  firing-size (Const v) [] = length-changed i (with_word x v) w.activations
-  firing-size (Operate o a b) (u ∷ v ∷ []) = length-changed i _ w.activations
-  firing-size (Seq a b) (u ∷ v ∷ []) = length-changed i (with_word x u) w.activations
+  firing-size (Const v) [] = length-changed_at i (with_word x v) w.activations
+  firing-size (Operate o a b) (u ∷ v ∷ []) = length-changed_at i _ w.activations
+  firing-size (Seq a b) (u ∷ v ∷ []) = length-changed_at i (with_word x u) w.activations
   firing-size (Call c) [] = refl
   firing-size (Arg f k a) (v ∷ p ∷ []) = refl
   firing-size (Give k a) (v ∷ []) = refl
   firing-size (Alloc n) (v ∷ []) = refl
   firing-size (Fetch a j) (u ∷ v ∷ []) = refl
   firing-size (Store a j b) (t ∷ u ∷ v ∷ []) = refl
-  firing-size (Cond p y n) (v ∷ []) = length-changed i _ w.activations
+  firing-size (Cond p y n) (v ∷ []) = length-changed_at i _ w.activations
   firing-size (Switch c k a) (u ∷ v ∷ []) = all_got-size w i (node_in (its_code g w i) (chosen_branch (its_code g w i) c u) (is_enter k)) v
   firing-size (Leave k a) (v ∷ []) = all_got-size w i (merges_of (its_code g w i) k (owner_of (its_code g w i) (block_at (its_code g w i) x))) v
   firing-size k vs = refl
@@ -55,7 +56,7 @@ module _ (g : Graph) (w : World) (i x : ℕ) where
   pub fired-few : Few w → Few (fired g w i x).world
   fired-few h = record {
     activations = subst (λ n. n < 2 ^ 32) (sym fired-size) h.activations;
-    arrays = subst (λ (rows : Arrays). length rows < 2 ^ 32) (sym (fired-arrays g w i x)) h.arrays;
+    arrays = subst (λ (rows : Arrays). length rows < 2 ^ 32) (sym (arrays-fired g w i x)) h.arrays;
   }
 
 -- ---- deliveries
@@ -129,7 +130,7 @@ delivered-sized w a n (Carry f x v) p q h = go (f == outside) refl
   where
     go : (t : Bool) → (f == outside) ≡ t → SizedAfter a n (delivered w (Carry f x v))
     go true e = rw (delivered, e) tt
-    go false e = let s = length-changed f (with_word x v) w.activations in rw (delivered, e) (omega arith, omega arith)
+    go false e = let s = length-changed_at f (with_word x v) w.activations in rw (delivered, e) (omega arith, omega arith)
 delivered-sized w a n (Begin c f x) p q h =
     let s = length-push w.activations (begun c f x) in
     let l : length w.activations + 1 ≤ a = h c f x refl in (omega arith, omega arith)

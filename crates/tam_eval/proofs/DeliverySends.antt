@@ -10,6 +10,8 @@ use Rattle.tam_istr.specs.Cells.{Arrays, Cell, Reader, Empty, Filled, with_array
 use Rattle.tam_flow.specs.Worlds.{World, Delivery, Went, Printed, Faulted, accessed, delivered, got, begun}
 use Rattle.tam_flow.specs.Reached.{cell_at}
 use Rattle.tam_flow.proofs.Moves.{Moves, JustNone, Left, left-delivered, IsForInlet, Fits, for-later, moves-begun}
+use Rattle.tam_flow.proofs.Changes.{set-cases}
+use Rattle.tam_flow.proofs.CellChanges.{some-eq}
 
 -- the readers that wait are for inlets
 abbrev pub ReadersFit : Graph → World → Type 0
@@ -39,19 +41,6 @@ FitsAfter g (Faulted f) = Unit {0}
 
 -- ---- cells
 
--- two of one element
-some-one : {X : Type 0} {x y : X} → Some x ≡ Some y → x ≡ y
-some-one e = cc
-
--- an element of a list with one set is as it was, or it is that one
-set-cases : {X : Type 0} (xs : List X) (n i : ℕ) (y : X) → (slice_get (slice_set xs n y) i ≡ slice_get xs i) ⊎
-    ((n ≡ i) × (slice_get (slice_set xs n y) i ≡ Some y))
-set-cases [] n i y = inl refl
-set-cases (x ∷ xs) zero zero y = inr (refl, refl)
-set-cases (x ∷ xs) zero (suc i) y = inl refl
-set-cases (x ∷ xs) (suc n) zero y = inl refl
-set-cases (x ∷ xs) (suc n) (suc i) y = elim (set-cases xs n i y) [ inl e ↦ inl e | inr r ↦ inr (ap suc r.0, r.1) ]
-
 -- a cell of changed arrays is as it was, or it is the changed one
 cell-cases : (rows : Arrays) (a i : ℕ) (d : Cell) (b j : ℕ) (e : Cell) → slice_get (unwrap_or (slice_get (with_cell rows a i d) b) []) j ≡ Some e
     → (slice_get (unwrap_or (slice_get rows b) []) j ≡ Some e) ⊎ (d ≡ e)
@@ -62,7 +51,7 @@ cell-cases rows a i d b j e h = outer (set-cases rows a b (slice_set (unwrap_or 
         ⊎ ((i ≡ j) × (slice_get (slice_set (unwrap_or (slice_get rows a) []) i d) j ≡ Some d))
         → (slice_get (unwrap_or (slice_get rows b) []) j ≡ Some e) ⊎ (d ≡ e)
     inner q k (inl p) = inl (subst (λ z. slice_get (unwrap_or (slice_get rows z) []) j ≡ Some e) q (sym p ∙ k))
-    inner q k (inr p) = inr (some-one (sym p.1 ∙ k))
+    inner q k (inr p) = inr (some-eq (sym p.1 ∙ k))
 
     outer : (slice_get (with_cell rows a i d) b ≡ slice_get rows b)
         ⊎ ((a ≡ b) × (slice_get (with_cell rows a i d) b ≡ Some (slice_set (unwrap_or (slice_get rows a) []) i d)))
@@ -77,7 +66,7 @@ in-replicate zero y z j h = absurd (none h)
   where
     none : None ≡ Some z → ⊥
     none e = cc
-in-replicate (suc n) y z zero h = some-one h
+in-replicate (suc n) y z zero h = some-eq h
 in-replicate (suc n) y z (suc j) h = in-replicate n y z j h
 
 -- a cell of arrays with one more is as it was, or it is empty without readers

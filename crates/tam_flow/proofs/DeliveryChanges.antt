@@ -1,5 +1,6 @@
 -- What a delivery does to cells, activations and wishes, whatever its reasons; and that a run changes no cell.
-use Rattle.std.proofs.Common.{◌≡◌, ℕ, Bool, true, false, ◌==◌, List, [], ◌∷◌, ◌++◌, replicate, unwrap_or, Option, Some, None, slice_get, slice_set, refl, sym, ◌∙◌, subst, inl, inr, ◌⊎◌, ⊎_elim}
+use Rattle.std.proofs.Common.{◌≡◌, ℕ, Bool, true, false, ◌==◌, List, [], ◌∷◌, ◌++◌, replicate, unwrap_or, Option, Some, None, slice_get, slice_set, refl, sym}
+use Rattle.std.proofs.Common.{◌∙◌, subst, inl, inr, ◌⊎◌, ⊎_elim}
 use Rattle.std.specs.List.{AllByRecursion}
 use Rattle.tam_graph.specs.declared.kind.Kind.{Kind}
 use Rattle.tam_graph.specs.declared.kind.Kind.TheVariants.{Const, Op as Operate, Seq, Call, Arg, Give, Alloc, Fetch, Store, Cond, Switch, Leave}
@@ -11,14 +12,15 @@ use Rattle.tam_graph.specs.Graphs.{Graph, kind_at, operands_of, chosen_branch, n
 use Rattle.tam_split.specs.Blocks.{BlockGraph, vertex_at}
 use Rattle.tam_split.specs.GraphPartitions.{Partitions, firing_order}
 use Rattle.tam_split.specs.Partitions.{class_at}
-use Rattle.tam_flow.specs.Worlds.{World, Effect, Delivery, Went, Printed, Faulted, Second_store, Outside_cells, got, all_got, its_code, words_of, merges_of, firing_of, fired_with, fired, accessed, delivered}
+use Rattle.tam_flow.specs.Worlds.{World, Effect, Delivery, Went, Printed, Faulted, Second_store, Outside_cells, got, all_got, its_code, words_of, merges_of}
+use Rattle.tam_flow.specs.Worlds.{firing_of, fired_with, fired, accessed, delivered}
 use Rattle.tam_flow.specs.Journals.{State, fire_each, class_fired, block_of_act, parts_of_act}
 use Rattle.tam_flow.specs.Reached.{cells_at, cell_at}
 use Rattle.tam_flow.proofs.Growing.{with_begun}
 use Rattle.tam_flow.proofs.Changes.{set-cases}
 use Rattle.tam_flow.proofs.CellChanges.{some-eq, push-cases, all-same, cell-array}
-use Rattle.tam_flow.proofs.Lengths.{size, size-got, then_one}
-use Rattle.tam_flow.proofs.Tags.{asks}
+use Rattle.tam_flow.proofs.ActivationCounts.{size, size-got, then_one}
+use Rattle.tam_flow.proofs.Senders.{asks}
 
 -- a filled cell was filled before, or by this message
 abbrev pub FilledBy : World → Message → World → Type 0
@@ -35,9 +37,11 @@ ComesOf w m (Printed k v) = Unit {0}
 ComesOf w m (Faulted (Second_store s t)) = (a j u v : ℕ) × (m ≡ Put_cell a j v t) × (cell_at w a j ≡ Some (Filled u s))
 ComesOf w m (Faulted (Outside_cells t j n)) = Unit {0}
 
+-- an empty cell isn't a filled one
 empty-filled : {rs : List (ℕ × ℕ)} {u t : ℕ} → Empty rs ≡ Filled u t → ⊥
 empty-filled e = cc
 
+-- equal filled cells have one word and one site
 filled-eq : {u v s t : ℕ} → Filled u s ≡ Filled v t → (u ≡ v) × (s ≡ t)
 filled-eq e = (cc, cc)
 
@@ -55,11 +59,13 @@ changed-cell w a j c b i d e = ⊎_elim old new (set-cases w.arrays a b (slice_s
         ⊎_elim (λ s. inl (subst (λ k. cell_at w k i ≡ Some d) r.0 (sym s ∙ here))) (λ s. inr (r.0, s.0, some-eq (sym s.1 ∙ here)))
         (set-cases (cells_at w a) j i c)
 
+-- answers to readers are words
 answers-words : (v : ℕ) (rs : List (ℕ × ℕ)) → AllByRecursion (λ x. asks x ≡ false) (answers v rs)
 answers-words v [] = tt
 answers-words v (r ∷ rs) = (refl, answers-words v rs)
 
 module _ (w : World) where
+  -- what comes of a fetch
   comes-ask : (a j f x t : ℕ) → ComesOf w (Ask_cell a j f x t) (delivered w (Ask_cell a j f x t))
   comes-ask a j f x t = array (slice_get w.arrays a) refl
     where
@@ -83,6 +89,7 @@ module _ (w : World) where
       array None e = tt
       array (Some cells) e = cell cells (slice_get cells j) refl
 
+  -- of a store
   comes-put : (a j u t : ℕ) → ComesOf w (Put_cell a j u t) (delivered w (Put_cell a j u t))
   comes-put a j u t = array (slice_get w.arrays a) refl
     where
@@ -105,6 +112,7 @@ module _ (w : World) where
       array None e = tt
       array (Some cells) e = cell cells e (slice_get cells j) refl
 
+  -- of a wish for an array
   comes-make : (n f x : ℕ) → ComesOf w (Make n f x) (delivered w (Make n f x))
   comes-make n f x = ((refl, tt), filled, inl refl)
     where
@@ -119,6 +127,7 @@ module _ (w : World) where
               (λ r. absurd (empty-filled (all-same n (Empty []) (Filled u t) j (subst (λ cs. slice_get cs j ≡ Some (Filled u t)) (sym r.1) h.2))))
               (push-cases w.arrays (replicate n (Empty [])) h.0 a h.1)
 
+  -- and of each message
   pub comes : (m : Message) → ComesOf w m (delivered w m)
   comes (Carry f x v) = go (f == outside) refl
     where
@@ -132,10 +141,12 @@ module _ (w : World) where
 
 -- ---- a run changes no cell
 
+-- words change no array
 arrays-all_got : (w : World) (i : ℕ) (xs : List ℕ) (v : ℕ) → (all_got w i xs v).arrays ≡ w.arrays
 arrays-all_got w i [] v = refl
 arrays-all_got w i (x ∷ xs) v = arrays-all_got (got w i x v) i xs v
 
+-- nor does a firing, by what the node does
 arrays-firing : (g : Graph) (w : World) (i x : ℕ) (k : Kind) (vs : List ℕ) → (firing_of g w i x k vs).world.arrays ≡ w.arrays
 arrays-firing g w i x (Const v) [] = refl
 arrays-firing g w i x (Operate o l r) (u ∷ v ∷ []) = refl
@@ -151,13 +162,15 @@ arrays-firing g w i x (Switch d k a) (u ∷ v ∷ []) = arrays-all_got w i (node
 arrays-firing g w i x (Leave k a) (v ∷ []) = arrays-all_got w i (merges_of (its_code g w i) k (owner_of (its_code g w i) (block_at (its_code g w i) x))) v
 arrays-firing g w i x k vs = refl
 
-arrays-fired : (g : Graph) (w : World) (i x : ℕ) → (fired g w i x).world.arrays ≡ w.arrays
+-- whatever the node is
+pub arrays-fired : (g : Graph) (w : World) (i x : ℕ) → (fired g w i x).world.arrays ≡ w.arrays
 arrays-fired g w i x = go (words_of w i (operands_of (its_code g w i) (kind_at (its_code g w i) x)))
   where
     go : (ws : List (List ℕ)) → (fired_with g w i x ws).world.arrays ≡ w.arrays
     go [] = refl
     go (vs ∷ more) = arrays-firing g w i x (kind_at (its_code g w i) x) vs
 
+-- nor does one more vertex that fires
 arrays-one : (g : Graph) (b : BlockGraph) (i : ℕ) (e : Effect) (x : ℕ) → (then_one g b i e x).world.arrays ≡ e.world.arrays
 arrays-one g b i e x = go (vertex_at b x).inlet refl
   where
@@ -165,10 +178,12 @@ arrays-one g b i e x = go (vertex_at b x).inlet refl
     go true d = rw (then_one, d) refl
     go false d = rw (then_one, d) (arrays-fired g e.world i (vertex_at b x).node)
 
+-- nor do several
 arrays-each : (g : Graph) (b : BlockGraph) (i : ℕ) (e : Effect) (xs : List ℕ) → (fire_each g b i e xs).world.arrays ≡ e.world.arrays
 arrays-each g b i e [] = refl
 arrays-each g b i e (x ∷ xs) = arrays-each g b i (then_one g b i e x) xs ∙ arrays-one g b i e x
 
+-- so a run changes no array
 pub arrays-run : (g : Graph) (all : Partitions) (s : State) (i b c : ℕ) → (class_fired g all s i b c).world.arrays ≡ s.world.arrays
 arrays-run g all s i b c =
     arrays-each g (block_of_act g s i b) i (record { world = s.world; sends = [] })

@@ -1,5 +1,6 @@
 -- A code of an accepted graph has at most 1024 nodes, each in one of its blocks.
-use Rattle.std.proofs.Common.{◌≡◌, ℕ, zero, suc, ◌+◌, ◌*◌, ◌/◌, ◌%◌, ◌<◌, ◌≤◌, Bool, true, false, ◌==◌, List, [], ◌∷◌, filter, sum_by, length, nat_lt, refl, ap, ap₂, arith, tests, subst, inr}
+use Rattle.std.proofs.Common.{◌≡◌, ℕ, zero, suc, ◌+◌, ◌*◌, ◌/◌, ◌%◌, ◌<◌, ◌≤◌, Bool, true, false, ◌==◌, List, [], ◌∷◌, filter, sum_by, length, nat_lt, refl, ap}
+use Rattle.std.proofs.Common.{ap₂, arith, tests, subst, inr}
 use Rattle.std.specs.List.{AllByRecursion}
 use Rattle.std.proofs.lemmas.List.Sums.{sum_by-cons, sum_by_push}
 use Rattle.std.proofs.lemmas.List.{length-append}
@@ -20,6 +21,7 @@ one-vertex c x = go (is_split (kind_at c x)) refl
     go true e = rw (vertices_at, e) (omega arith)
     go false e = rw (vertices_at, e) (omega arith)
 
+-- so there are no fewer vertices than nodes
 no-fewer : (c : Code) (xs : List ℕ) → length xs ≤ sum_by (vertices_at c) xs
 no-fewer c [] = omega arith
 no-fewer c (x ∷ xs) = let i = no-fewer c xs in let v = one-vertex c x in omega (arith, sum_by-cons (vertices_at c) x xs, i, v)
@@ -44,6 +46,7 @@ split-blocks c m (x ∷ xs) = go (nat_lt (block_at c x) (suc m)) refl (nat_lt (b
     go true e false f true h i = rw (e, f, h) (omega (arith, i))
     go true e false f false h i = absurd (grind (arith, tests))
 
+-- the nodes in blocks below m are no more than those blocks' vertices
 all-blocks : (c : Code) (xs : List ℕ) (m : ℕ)
     → length (filter (λ x. nat_lt (block_at c x) m) xs) ≤ sum_by (λ b. sum_by (vertices_at c) (filter (λ x. block_at c x == b) xs)) (below m)
 all-blocks c xs zero = none xs
@@ -60,10 +63,12 @@ all-blocks c xs (suc m) =
     chain : (a b d p q t : ℕ) → a ≤ b + d → b ≤ p → d ≤ q → t ≡ p + q → a ≤ t
     chain a b d p q t h k l e = omega arith
 
+-- where all pass, all are left
 all-pass : (test : ℕ → Bool) (xs : List ℕ) → AllByRecursion (λ x. test x ≡ true) xs → length (filter test xs) ≡ length xs
 all-pass test [] h = refl
 all-pass test (x ∷ xs) h = rw h.0 (ap suc (all-pass test xs h.1))
 
+-- there are n numbers below n
 length-below : (n : ℕ) → length (below n) ≡ n
 length-below zero = refl
 length-below (suc n) = let i = length-below n in omega (arith, length-append (below n) (n ∷ []), i)

@@ -1,5 +1,6 @@
 -- In an accepted graph one node alone stands for a place of an interface: whoever sends to the place finds it.
-use Rattle.std.proofs.Common.{◌≡◌, ℕ, zero, suc, ◌<◌, Bool, true, false, ◌==◌, ◌&&◌, List, [], ◌∷◌, ◌++◌, length, nat_lt, refl, sym, ap, ◌∙◌, arith, tests, subst, inl, inr, ◌⊎◌, true≢false}
+use Rattle.std.proofs.Common.{◌≡◌, ℕ, zero, suc, ◌<◌, Bool, true, false, ◌==◌, ◌&&◌, List, [], ◌∷◌, ◌++◌, length, nat_lt, refl, sym, ap, ◌∙◌, arith, tests}
+use Rattle.std.proofs.Common.{subst, inl, inr, ◌⊎◌, true≢false}
 use Rattle.std.specs.List.{AllByRecursion}
 use Rattle.tam_word.specs.Lists.{any_of, first_of, below, has, where_so}
 use Rattle.tam_graph.specs.declared.kind.Kind.TheVariants.{Param, Ret, Merge}

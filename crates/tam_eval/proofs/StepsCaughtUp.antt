@@ -19,8 +19,8 @@ use Rattle.tam_flow.proofs.CatchUp.{Placed, IsDue, CaughtUp}
 use Rattle.tam_flow.proofs.Moves.{Moves, IsForInlet, Fits}
 use Rattle.tam_eval.specs.GraphRuns.{is_enabled}
 use Rattle.tam_eval.proofs.Follows.{RunsStand, MessagesFit}
-use Rattle.tam_eval.proofs.Steps.{Steps}
-use Rattle.tam_eval.proofs.Sizes.{Few}
+use Rattle.tam_eval.proofs.KeptBySteps.{Steps}
+use Rattle.tam_eval.proofs.WorldSizes.{Few}
 
 -- ---- going on
 

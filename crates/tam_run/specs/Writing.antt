@@ -6,10 +6,18 @@ use Rattle.tam_edge.specs.Faults.{CountsFault}
 use Rattle.tam_edge.specs.Whole.{AppendsFront}
 use Rattle.tam_msgs.specs.declared.stop.Stop.{Stop}
 use Rattle.tam_msgs.specs.declared.stop.Stop.TheVariants.{NoMemory}
-use Rattle.tam_msgs.specs.Runs.{Report, Quiet, result_line, text_of, missing_of}
+use Rattle.tam_msgs.specs.Runs.{Report, End, Quiet, result_line, text_of, missing_of}
+use Rattle.tam_msgs.specs.declared.counts.Counts.{Counts}
 use Rattle.tam_run.specs.declared.outcome.Outcome.{Outcome}
 use Rattle.tam_run.specs.declared.outcome.Outcome.TheVariants as outcome
+use Rattle.tam_run.specs.declared.broken.Broken.{Broken}
+use Rattle.tam_run.specs.declared.broken.Broken.TheVariants as broken
 use Rattle.tam_run.specs.Ends.{end_of_stop}
+
+-- what the text tells of a run that printed these words, ended so, and counted so
+abbrev pub told_of : List (ℕ × ℕ) → End → ℕ → Counts → Report
+told_of printed how results counts =
+    record { printed = printed; how = how; results = results; events = counts.events; activations = counts.activations; cells = counts.cells }
 
 -- the lines of the first results were taken, of any number of them
 abbrev pub AppendsFirstLines : Option (List ℕ) → Option (List ℕ) → List (ℕ × ℕ) → Type 0
@@ -30,3 +38,15 @@ Writes r old new outcome.WriteFault = AppendsFront old new (text_of r)
 abbrev pub CountsRun : ℕ → ℕ → Outcome → Type 0
 CountsRun before now outcome.WriteFault = CountsFault before now
 CountsRun before now ended = now ≡ before
+
+-- the text was written, or nothing for want of memory, or a front of it before a fault
+abbrev pub Puts : {T : Type 0} → Option (List ℕ) → Option (List ℕ) → List ℕ → Result T Broken → Type 0
+Puts old new text (Ok x) = Appends old new text
+Puts old new text (Err broken.NoMemory) = new ≡ old
+Puts old new text (Err broken.WriteFault) = AppendsFront old new text
+
+-- the count of the sink's faults rose, or stands at its last value, where a write failed, and is as before elsewhere
+abbrev pub CountsPuts : {T : Type 0} → ℕ → ℕ → Result T Broken → Type 0
+CountsPuts before now (Ok x) = now ≡ before
+CountsPuts before now (Err broken.NoMemory) = now ≡ before
+CountsPuts before now (Err broken.WriteFault) = CountsFault before now

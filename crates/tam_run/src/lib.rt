@@ -4,7 +4,12 @@
 //! Read `specs/Writing.antt` first: what a run wrote, by how it ended. Then `src/run.rt`.
 #![tactic(auto)]
 
+mod broken;
+mod last_lines;
 mod lines;
 mod outcome;
+mod writing;
+
+use broken::Broken;
 
 pub use outcome::Outcome;

@@ -123,7 +123,7 @@ pub fn stop_line(alloc: Global, stop: Stop) -> Result<Vec<u8>, AllocError>
 }
 
 // Adds a line behind the others.
-fn push_line(lines: &mut Vec<Vec<u8>>, line: Vec<u8>) -> Result<(), AllocError>
+pub fn push_line(lines: &mut Vec<Vec<u8>>, line: Vec<u8>) -> Result<(), AllocError>
     ensures ok { OnOk result (texts_of lines.new.items ≡ texts_of lines.old.items ++ line.items ∷ []) }
 {
     lines.push(line)?;

@@ -91,7 +91,7 @@ pub data Answer (ask : Asked) (left : Option (List ℕ)) : ℕ → List ℕ → 
   -- memory was wanted before a run
   no_memory : Answer ask left 11 no_memory_line
   -- or in a run, behind the lines of its first results
-  no_memory_in_run : {g : Graph} {args : List ℕ} {front rest : List (ℕ × ℕ)} → AsksRun ask left g args → (run_of g args).printed ≡ front ++ rest
+  no_memory_in_run : {g : Graph} {args : List ℕ} (front rest : List (ℕ × ℕ)) → AsksRun ask left g args → (run_of g args).printed ≡ front ++ rest
       → Answer ask left 11 (flat_map result_line front ++ no_memory_line)
   -- of a file whose content isn't told nothing more is said
   untold : {args text : List ℕ} {status : ℕ} → ask ≡ Job (name_of ask) args → left ≡ None → Answer ask left status text

@@ -1,6 +1,8 @@
 //! Runs a dataflow graph.
 #![tactic(auto)]
 
+mod say;
+mod status;
 mod usage_cause;
 mod words;
 

@@ -12,7 +12,7 @@ use Rattle.tam_istr.specs.Cells.{Cell, Reader, Empty, Filled}
 use Rattle.tam_graph.specs.Graphs.{Graph, operands_of}
 use Rattle.tam_graph.specs.Accepted.{IsAccepted}
 use Rattle.tam_graph.proofs.Depths.{alloc-depth, fetch-depth, store-depth}
-use Rattle.tam_graph.proofs.Lines.{NoCall, alloc-line, fetch-line, store-line}
+use Rattle.tam_graph.proofs.NamedNodes.{NoCall, alloc-line, fetch-line, store-line}
 use Rattle.tam_split.specs.GraphPartitions.{Partitions, are_valid}
 use Rattle.tam_fire.specs.FiringRules.{Path, Value, Word, Array, Fired, node_of, IsStore, IsAccess}
 use Rattle.tam_flow.specs.Worlds.{activation_at, its_code}

@@ -12,7 +12,7 @@ use Rattle.tam_graph.specs.Graphs.{test_of_kind}
 use Rattle.tam_graph.specs.Accepted.{IsAccepted}
 use Rattle.tam_graph.proofs.Depths.{const-depth, op-depth, seq-depth, arg-depth, ret-depth, cond-depth, leave-depth}
 use Rattle.tam_graph.proofs.Branches.{enter-depth}
-use Rattle.tam_graph.proofs.Lines.{op-line, seq-line, arg-line, give-line, cond-line, switch-line, leave-line}
+use Rattle.tam_graph.proofs.NamedNodes.{op-line, seq-line, arg-line, give-line, cond-line, switch-line, leave-line}
 use Rattle.tam_split.specs.GraphPartitions.{Partitions, are_valid}
 use Rattle.tam_split.proofs.Depends.{Depends}
 use Rattle.tam_fire.specs.FiringRules.{Path, Value, Word, Activation, Array, Begun, Entered, Fired, the_code, node_of, block_of, values}

@@ -2,12 +2,13 @@
 use Rattle.std.specs.Prelude.{ℕ, ◌≡◌, ◌≢◌, ◌⊎◌, List, [], ◌++◌, flat_map, map, Option, String}
 use Rattle.std.specs.declared.alloc.Global.{Global}
 use Rattle.std.specs.String.{string_bytes}
-use Rattle.std.specs.Io.KnownBytes.{Appends}
+use Rattle.std.specs.Io.KnownBytes.{Appends, IsAtEnd}
+use Rattle.tam_edge.specs.Faults.{Rose}
 use Rattle.tam_edge.specs.Whole.{AppendsFront}
 use Rattle.tam_graph.specs.Graphs.{Graph}
 use Rattle.tam_msgs.specs.Runs.{Quiet, result_line, text_of, missing_of}
 use Rattle.tam_eval.specs.Headline.{IsRight}
-use Rattle.tam.specs.Words.{Asked, asked}
+use Rattle.tam.specs.Words.{Asked, Names, asked, name_of}
 use Rattle.tam.specs.Answers.{Answer, AsksRun, run_of, usual_limits, read_fault_line, no_memory_line}
 
 -- what the words ask for
@@ -21,6 +22,14 @@ Answered ask left status old new = (text : List ℕ) × Answer ask left status t
 -- the sink took a front of the text of some answer
 abbrev pub BrokeOff : Asked → Option (List ℕ) → Option (List ℕ) → Option (List ℕ) → Type 0
 BrokeOff ask left old new = (status : ℕ) × (text : List ℕ) × Answer ask left status text × AppendsFront old new text
+
+-- what a call leaves of the files: nothing of a name that isn't asked for changes, and where its count changed, a read fault is answered
+pub record KeepsFiles (ask : Asked) (status : ℕ) (left left_new : List ℕ → Option (List ℕ)) (faults faults_new : List ℕ → ℕ) : Type 0 where
+  pub other_left : (other : List ℕ) → ¬ Names ask other → left_new other ≡ left other
+  pub other_faults : (other : List ℕ) → ¬ Names ask other → faults_new other ≡ faults other
+  pub read_fault : status ≡ 3 → Rose (faults (name_of ask)) (faults_new (name_of ask))
+  pub fault_told : faults_new (name_of ask) ≢ faults (name_of ask) → (status ≡ 3) ⊎ (status ≡ 10)
+  pub read_whole : status ≡ 0 → IsAtEnd (left_new (name_of ask))
 
 -- the statuses that come
 pub data IsStatus : ℕ → Type 0 where

@@ -1,10 +1,33 @@
 // The words of the command line.
 ghost use Rattle.std.specs.Prelude.{◌≡◌, map, IfOk, IfSome, IfNone, Some, None};
 ghost use Rattle.std.specs.List.{slice_split};
-ghost use Rattle.tam.specs.Words.{all_words, args_of, is_comma, is_file_name};
+ghost use Rattle.tam_word.specs.Lists.{same_bytes};
+ghost use Rattle.tam.specs.Words.{all_words, args_of, is_comma, is_file_name, list_of};
 
 use std::alloc::{AllocError, Global};
 use tam_word::read_word;
+
+const ARGS_OPTION: &[u8] = b"--args=";
+
+/// Whether the bytes are the same.
+pub fn is_same(first: &[u8], second: &[u8]) -> bool
+    ensures value { result ≡ same_bytes first.now second.now }
+{
+    first == second
+}
+
+/// The list in the option `--args=LIST`, if it is this option.
+pub fn list_of(option: &[u8]) -> Option<&[u8]>
+    ensures found { IfSome result (λ list. list_of option.now ≡ Some list.now) }
+    ensures absent { IfNone result (list_of option.now ≡ None) }
+{
+    let (front, list) = option.split_at(option.len().min(ARGS_OPTION.len()));
+    if is_same(front, ARGS_OPTION) {
+        Some(list)
+    } else {
+        None
+    }
+}
 
 /// Whether the text may name a file: it isn't empty and doesn't begin with `-`.
 pub fn is_file_name(name: &str) -> bool

@@ -14,5 +14,5 @@ pub returns-then-eq : goal.returns-then-eq
 returns-then-eq c =
     let is : c.op_name.result.now ≡ op_name (get_or OPS c.loop-op.op-index Add) = c.op_name.ensures.value in
     record {
-      value = this_op c.args.name.now c.op_name.result.now c.loop-op.op-index Add c.loop-op-test.true is (sym c.if-eq.ensures) c.loop-op.invariant
+      value = this_op c.args.name.now c.op_name.result.now c.loop-op.op-index Add c.loop-op-test.true is (sym c.if-eq.ensures) c.loop-op.invariant;
     }

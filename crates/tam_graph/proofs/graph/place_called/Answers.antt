@@ -1,4 +1,4 @@
-use Rattle.std.proofs.Common.{◌≡◌, ◌≤◌, ℕ, Some, length, slice_get, refl, sym, ◌∙◌, ap, arith}
+use Rattle.std.proofs.Common.{◌≡◌, length, refl, sym, ◌∙◌, ap, arith}
 use Rattle.std.proofs.lemmas.Option.{slice_get_read, slice_get_past, none-some, same_Some}
 use Rattle.tam_word.specs.Lists.{same_bytes}
 use Rattle.tam_graph.specs.Graphs.{Code}
@@ -13,7 +13,8 @@ loop-place-preserved c =
 
 pub returns-then-is-clause-value : goal.returns-then-is-clause-value
 returns-then-is-clause-value c =
-    let at = slice_get_read c.args.codes.now (length c.args.codes.now) c.loop-place.place c.index-codes-place.result refl c.loop-place-test.true c.index-codes-place.is in
+    let at = slice_get_read c.args.codes.now (length c.args.codes.now) c.loop-place.place c.index-codes-place.result refl
+    c.loop-place-test.true c.index-codes-place.is in
     sym (first_place (λ (d : Code). same_bytes c.args.name.now d.name) c.args.codes.now c.loop-place.place c.loop-place.invariant
     (omega (arith, c.loop-place-test.true))
     (λ (y : Code) e. ap (λ (d : Code). same_bytes c.args.name.now d.name) (same_Some _ _ (sym e ∙ at))
@@ -22,5 +23,6 @@ returns-then-is-clause-value c =
 pub returns-clause-value : goal.returns-clause-value
 returns-clause-value c =
     let same : c.loop-place.place ≡ length c.args.codes.now = omega (arith, c.loop-place-test.false, c.loop-place.auto.place-end) in
-    sym (first_place (λ (d : Code). same_bytes c.args.name.now d.name) c.args.codes.now (length c.args.codes.now) (rw same at c.loop-place.invariant) (omega arith)
+    sym (first_place (λ (d : Code). same_bytes c.args.name.now d.name) c.args.codes.now (length c.args.codes.now)
+    (rw same at c.loop-place.invariant) (omega arith)
     (λ (y : Code) e. absurd (none-some y (sym (slice_get_past c.args.codes.now (length c.args.codes.now) (omega arith)) ∙ e))))

@@ -9,7 +9,7 @@ pub loop-place-preserved : goal.loop-place-preserved
 loop-place-preserved c =
     none_before_next (λ (d : Code). same_bytes c.args.name.now d.name) c.args.codes.now c.loop-place.place c.index-codes-place.result
     (slice_get_read c.args.codes.now (length c.args.codes.now) c.loop-place.place c.index-codes-place.result refl c.loop-place-test.true c.index-codes-place.is)
-    (ap (same_bytes c.args.name.now) (sym c.name.ensures.value) ∙ (sym c.is.ensures.same ∙ c.if-is.false)) c.loop-place.invariant
+    (ap (same_bytes c.args.name.now) (sym c.name.ensures.value) ∙ (sym c.is.ensures.value ∙ c.if-is.false)) c.loop-place.invariant
 
 pub returns-then-is-clause-value : goal.returns-then-is-clause-value
 returns-then-is-clause-value c =
@@ -18,7 +18,7 @@ returns-then-is-clause-value c =
     sym (first_place (λ (d : Code). same_bytes c.args.name.now d.name) c.args.codes.now c.loop-place.place c.loop-place.invariant
     (omega (arith, c.loop-place-test.true))
     (λ (y : Code) e. ap (λ (d : Code). same_bytes c.args.name.now d.name) (same_Some _ _ (sym e ∙ at))
-    ∙ (ap (same_bytes c.args.name.now) (sym c.name.ensures.value) ∙ (sym c.is.ensures.same ∙ c.if-is.true))))
+    ∙ (ap (same_bytes c.args.name.now) (sym c.name.ensures.value) ∙ (sym c.is.ensures.value ∙ c.if-is.true))))
 
 pub returns-clause-value : goal.returns-clause-value
 returns-clause-value c =

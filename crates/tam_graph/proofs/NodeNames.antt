@@ -6,7 +6,7 @@ use Rattle.tam_word.proofs.Members.{In, in-any}
 use Rattle.tam_graph.specs.declared.node.Node.{Node}
 use Rattle.tam_graph.specs.Graphs.{Code}
 use Rattle.tam_graph.specs.Finding.{is_the_name, name_of, name_at}
-use Rattle.tam_graph.specs.Reading.{given_names, names_in, IsCode}
+use Rattle.tam_graph.specs.Reading.{given_names, IsCode}
 use Rattle.tam_graph.proofs.SameBytes.{same_self, same_equal}
 
 -- a name that is there is given
@@ -18,7 +18,8 @@ given-in (None ∷ ns) (suc y) a e = given-in ns y a e
 given-in (Some b ∷ ns) (suc y) a e = inr (given-in ns y a e)
 
 -- where names differ, none behind the first is the first, and those behind it differ
-pub differ-behind : (b : List ℕ) (bs : List (List ℕ)) → all_differ same_bytes (b ∷ bs) ≡ true → (any_of (same_bytes b) bs ≡ false) × (all_differ same_bytes bs ≡ true)
+pub differ-behind : (b : List ℕ) (bs : List (List ℕ)) → all_differ same_bytes (b ∷ bs) ≡ true
+    → (any_of (same_bytes b) bs ≡ false) × (all_differ same_bytes bs ≡ true)
 differ-behind b bs h = go (any_of (same_bytes b) bs) refl
   where
     go : (t : Bool) → any_of (same_bytes b) bs ≡ t → (any_of (same_bytes b) bs ≡ false) × (all_differ same_bytes bs ≡ true)

@@ -101,7 +101,14 @@ mod tests {
         let nodes = vec![in rt.alloc();
             node(Some(a), Kind::Param { place: 0 }),
             node(Some(b), Kind::Param { place: 1 }),
-            node(Some(s), Kind::Op { op: Op::Add, a: 0, b: 1 }),
+            node(
+                Some(s),
+                Kind::Op {
+                    op: Op::Add,
+                    a: 0,
+                    b: 1
+                }
+            ),
             node(None, Kind::Give { place: 0, a: 2 }),
         ]?;
         let owners = vec![in rt.alloc(); None]?;

@@ -1,4 +1,4 @@
-// Finding the nodes of a code by their names, without memory of their own.
+// Finding the nodes of a code by their names, in a table of fixed size.
 ghost use Rattle.std.specs.Prelude.{ℕ, ◌≡◌, ◌≢◌, ◌<◌, ◌≤◌, length, slice_get, IfSome, IfNone};
 ghost use Rattle.tam_graph.specs.Finding.{is_called, name_of};
 ghost use Rattle.tam_graph.specs.Hashes.{hash_of, IsIndexOf};

@@ -59,7 +59,7 @@ impl Name {
 
     /// Whether the name is these bytes.
     pub fn is(&self, bytes: &[u8]) -> bool
-        ensures same { result ≡ same_bytes bytes.now self.now }
+        ensures value { result ≡ same_bytes bytes.now self.now }
     {
         bytes == self.bytes()
     }

@@ -1,13 +1,13 @@
 -- The pieces of an order's text, one after the other, and the items that they spell.
 use Rattle.std.proofs.Common.{◌≡◌, ℕ, zero, suc, ◌+◌, ◌-◌, ◌≤◌, Bool, true, false, not, ltb, eqb, cond, List, [], ◌∷◌, ◌++◌, length}
-use Rattle.std.proofs.Common.{take, drop, get_or, Option, Some, None, Result, Ok, Err, refl, sym, ap, ◌∙◌, arith}
+use Rattle.std.proofs.Common.{take, drop, get_or, Option, Some, None, Result, Ok, Err, refl, sym, ap, ◌∙◌, arith, append_assoc}
 use Rattle.std.specs.Prelude.{MatchOption}
 use Rattle.std.specs.List.{slice_split, onto_first, position, position_or_len}
 use Rattle.std.proofs.lemmas.Bool.{ltb-true, ltb-false, eqb-true}
 use Rattle.std.proofs.lemmas.List.{take_all, length-drop}
 use Rattle.std.proofs.lemmas.List.Splits.{slice_split_first}
 use Rattle.tam_msgs.specs.declared.item.Item.{Item}
-use Rattle.tam_msgs.specs.Orders.{without_last_line_feed}
+use Rattle.tam_msgs.specs.Orders.{item_of, item_before, items_from, without_last_line_feed}
 
 -- ---- pieces
 
@@ -68,3 +68,18 @@ last_kept (b ∷ c ∷ bs) (suc n) l e = ap (λ (xs : List ℕ). b ∷ xs) (last
 abbrev pub items_before : List Item → Result (List Item) ℕ → Result (List Item) ℕ
 items_before done (Ok items) = Ok (done ++ items)
 items_before done (Err place) = Err place
+
+-- one item more before the others
+item_more : (done : List Item) (item : Item) (r : Result (List Item) ℕ) → items_before done (item_before item r) ≡ items_before (done ++ item ∷ []) r
+item_more done item (Ok items) = ap (λ (xs : List Item). Ok xs) (sym (append_assoc done (item ∷ []) items))
+item_more done item (Err place) = refl
+
+-- a piece that spells an item
+pub piece_read : (done : List Item) (piece : List ℕ) (pieces : List (List ℕ)) (item : Item) (n : ℕ) → Some item ≡ item_of piece
+    → items_before done (items_from n (piece ∷ pieces)) ≡ items_before (done ++ item ∷ []) (items_from (suc n) pieces)
+piece_read done piece pieces item n e = go (item_of piece) e
+  where
+    go : (o : Option Item) → Some item ≡ o → items_before done (elim o [ None ↦ Err n | Some i ↦ item_before i (items_from (suc n) pieces) ])
+        ≡ items_before (done ++ item ∷ []) (items_from (suc n) pieces)
+    go None f = absurd cc
+    go (Some i) f = let same : i ≡ item = cc in rw same (item_more done item (items_from (suc n) pieces))

@@ -118,6 +118,7 @@ fn without_last_line_feed(text: &[u8]) -> &[u8]
 }
 
 // The items of the pieces between the joints.
+#[tactic(auto, using(crate::proofs::OrderPieces::piece_read))]
 fn read_items(alloc: Global, text: &[u8]) -> Result<Vec<Item>, OrderError>
     requires { length text.now ≤ 1048576 }
     ensures ok { IfOk result (λ v. items_from 0 (slice_split is_joint text.now) ≡ Ok v.items) }

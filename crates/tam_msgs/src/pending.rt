@@ -1,7 +1,6 @@
 // The messages on their way.
 ghost use Rattle.std.specs.Prelude.{◌≡◌, ◌+◌, ◌<◌, [], ◌∷◌, ◌++◌, length, Some, slice_get, IsOk, OnOk, OnErr, IfErr};
 ghost use Rattle.tam_word.specs.Lists.{without_place};
-ghost use Rattle.tam_edge.specs.declared.no_memory.NoMemory.{NoMemory};
 
 use crate::message::Message;
 use std::alloc::Global;
@@ -44,7 +43,7 @@ impl Pending {
 
     /// Takes the message at a place, and the rest keep their order.
     ///
-    /// It moves the messages before the place or those behind it, whichever are fewer: none at either end, and at most half of them.
+    /// It moves the messages before the place or those behind it, whichever are fewer: none at either end, half of them in the middle.
     pub fn take(&mut self, place: u32) -> Message
         requires { place < length self.old.messages }
         ensures value { slice_get self.old.messages place ≡ Some result }
@@ -60,7 +59,7 @@ impl Pending {
         ensures err { OnErr result (self.new ≡ self.old) }
         ensures handed_back { IfErr result (λ e. e.0 ≡ m) }
 
-        // Where there is room it can't fail.
+        // Where there is room it can't fail, and takes some of it.
         ensures room { 0 < self.old.spare → IsOk result }
         ensures spare { 0 < self.old.spare → self.new.spare + 1 ≡ self.old.spare }
     {

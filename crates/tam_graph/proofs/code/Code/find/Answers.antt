@@ -1,4 +1,4 @@
-use Rattle.std.proofs.Common.{◌≡◌, ◌∙◌, Some, ap}
+use Rattle.std.proofs.Common.{◌∙◌, Some, ap}
 use Rattle.tam_graph.specs.KeptCodes.{kept_code}
 use Rattle.tam_graph.proofs.NodeNames.{one-node, named-within}
 use Rattle.tam_graph.proofs.code.Code.find.Goals as goal

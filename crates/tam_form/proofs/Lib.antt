@@ -1,3 +1,4 @@
+pub mod Bytes
 pub mod Places
 pub mod Rising
 pub mod Fitting
@@ -5,3 +6,4 @@ pub mod Facts
 pub mod Flat
 pub mod Whole
 pub mod Faultless
+pub mod Formed

@@ -7,3 +7,4 @@ pub mod Flat
 pub mod Whole
 pub mod Faultless
 pub mod Formed
+pub mod Canonical

@@ -6,6 +6,7 @@ use Rattle.std.proofs.lemmas.List.{append-nil}
 use Rattle.std.proofs.lemmas.Grind.{flat_map-append}
 use Rattle.tam_word.specs.Lists.{below}
 use Rattle.tam_word.specs.Words.{signed_text}
+use Rattle.tam_word.specs.OpNames.{op_name}
 use Rattle.tam_word.proofs.Tests.{test-below, below-test, both-true}
 use Rattle.tam_word.proofs.Members.{In, in-get}
 use Rattle.tam_graph.specs.declared.kind.Kind.{Kind}
@@ -13,7 +14,7 @@ use Rattle.tam_graph.specs.declared.kind.Kind.TheVariants.{Param, Const, Op as O
 use Rattle.tam_graph.specs.declared.node.Node.{Node}
 use Rattle.tam_graph.specs.Graphs.{Code, Graph, or_kind, or_depth, nodes_in}
 use Rattle.tam_graph.specs.Written.{Visit, AtNode, visits}
-use Rattle.tam_graph.specs.Texts.{Token, Bytes, Number, Line, op_name, or_bytes, or_name, tokens, is_named, suffix, node_line, visit_line, line_text, end_line, canonical}
+use Rattle.tam_graph.specs.Texts.{Token, Bytes, Number, Line, or_bytes, or_name, tokens, is_named, suffix, node_line, visit_line, line_text, end_line, canonical}
 use Rattle.tam_form.specs.Form.{has_value_at, kind_fits, fit_behind}
 use Rattle.tam_form.specs.Text.{main_code, main_graph, name_at, line_of, line_at, text_of, head_text, end_text}
 use Rattle.tam_form.proofs.Places.{flat-places}

@@ -8,3 +8,5 @@ pub mod Whole
 pub mod Faultless
 pub mod Formed
 pub mod Canonical
+pub mod Plain
+pub mod Cutting

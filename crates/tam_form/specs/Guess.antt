@@ -10,7 +10,7 @@ use Rattle.tam_graph.specs.declared.kind.Kind.{Kind}
 use Rattle.tam_graph.specs.declared.kind.Kind.TheVariants.{Param, Const, Op as Operate, Seq, Give}
 use Rattle.tam_graph.specs.declared.node.Node.{Node}
 use Rattle.tam_graph.specs.Names.{is_name}
-use Rattle.tam_graph.specs.Texts.{op_name}
+use Rattle.tam_word.specs.OpNames.{op_name}
 
 -- what is made of two things, where both are there
 abbrev pub joined : {A B C : Type 0} → (A → B → C) → Option A → Option B → Option C

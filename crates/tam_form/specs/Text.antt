@@ -5,7 +5,8 @@ use Rattle.tam_graph.specs.declared.kind.Kind.{Kind}
 use Rattle.tam_graph.specs.declared.kind.Kind.TheVariants.{Param, Const, Op as Operate, Seq, Give}
 use Rattle.tam_graph.specs.declared.node.Node.{Node}
 use Rattle.tam_graph.specs.Graphs.{Code, Graph, graph_of, main_name}
-use Rattle.tam_graph.specs.Texts.{op_name, or_bytes, or_name}
+use Rattle.tam_graph.specs.Texts.{or_bytes, or_name}
+use Rattle.tam_word.specs.OpNames.{op_name}
 
 -- the code `main` of these nodes
 abbrev pub main_code : List Node → Code

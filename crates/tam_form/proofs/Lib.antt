@@ -10,3 +10,5 @@ pub mod Formed
 pub mod Canonical
 pub mod Plain
 pub mod Cutting
+pub mod Called
+pub mod NodeRead

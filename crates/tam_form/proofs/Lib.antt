@@ -12,3 +12,4 @@ pub mod Plain
 pub mod Cutting
 pub mod Called
 pub mod NodeRead
+pub mod TextRead

@@ -164,15 +164,8 @@ module _ (nodes : List Node) (fit : fit_behind [] nodes ≡ true) (differ : name
   give-read x k a h =
       let v = both-true (has_value_at (take x nodes) a) (nat_lt k 64) h in rw (place-again k v.1, (operand-read x a v.0).0) refl
 
-  -- the words of a node
-  abbrev pub words_first : Node → List ℕ
-  words_first n = first_word (or_bytes n.name) n.kind
-
-  abbrev pub words_rest : Node → List (List ℕ)
-  words_rest n = rest_words nodes n.kind
-
   -- they read as the node
-  pub node-again : (x : ℕ) (n : Node) → slice_get nodes x ≡ Some n → node_read (take x nodes) (words_first n ∷ words_rest n) ≡ Some n
+  pub node-again : (x : ℕ) (n : Node) → slice_get nodes x ≡ Some n → node_read (take x nodes) (first_word (or_bytes n.name) n.kind ∷ rest_words nodes n.kind) ≡ Some n
   node-again x n e = go (is_named n.kind) refl
     where
       f : Fits (take x nodes) n
@@ -183,7 +176,7 @@ module _ (nodes : List Node) (fit : fit_behind [] nodes ≡ true) (differ : name
           ap (λ o. Some (node_of o 0 0 k)) (sym q) ∙ ap (λ d. Some (node_of n.name d 0 k)) (sym f.depth)
           ∙ ap (λ b. Some (node_of n.name n.depth b k)) (sym f.block) ∙ ap (λ k. Some (node_of n.name n.depth n.block k)) (sym p)
 
-      go : (t : Bool) → is_named n.kind ≡ t → node_read (take x nodes) (words_first n ∷ words_rest n) ≡ Some n
+      go : (t : Bool) → is_named n.kind ≡ t → node_read (take x nodes) (first_word (or_bytes n.name) n.kind ∷ rest_words nodes n.kind) ≡ Some n
       go true h =
           let own = name-there n h f.named in
           kind-read x (or_bytes n.name) n.kind f.kind h own.1 ∙ of-parts n.kind (Some (or_bytes n.name)) refl own.0
@@ -207,5 +200,5 @@ module _ (nodes : List Node) (fit : fit_behind [] nodes ≡ true) (differ : name
       rw (all_of, signed-word k (let l : k < 64 = test-below k 64 v.1 in omega arith), name-word (name_at nodes a) (operand-read x a v.0).1) refl
   kind-plain x bs k h p = absurd (true≢false (sym h))
 
-  pub words-plain : (x : ℕ) (n : Node) → slice_get nodes x ≡ Some n → all_of is_word (words_first n ∷ words_rest n) ≡ true
+  pub words-plain : (x : ℕ) (n : Node) → slice_get nodes x ≡ Some n → all_of is_word (first_word (or_bytes n.name) n.kind ∷ rest_words nodes n.kind) ≡ true
   words-plain x n e = let f = node-fits nodes fit x n e in kind-plain x (or_bytes n.name) n.kind f.kind (λ h. name-word (or_bytes n.name) (name-there n h f.named).1)

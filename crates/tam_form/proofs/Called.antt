@@ -10,7 +10,7 @@ use Rattle.tam_graph.specs.Reading.{is_named_right, given_names}
 use Rattle.tam_form.specs.Form.{names_differ}
 use Rattle.tam_form.specs.Guess.{is_called, number_called}
 use Rattle.tam_form.proofs.Places.{get-take, take-get}
-use Rattle.tam_form.proofs.Bytes.{same-self, same-equal}
+use Rattle.tam_graph.proofs.SameBytes.{same_self, same_equal}
 
 -- the names of nodes
 abbrev pub names_of : List Node → List (List ℕ)
@@ -88,7 +88,7 @@ name-absent n h r = go n.name refl (rw (is_named_right, h) at r)
 pub called-among : (nodes : List Node) (x a : ℕ) (m : Node) → names_differ nodes ≡ true → a < x → slice_get nodes a ≡ Some m → m.name ≡ Some (or_bytes m.name)
     → number_called 0 (or_bytes m.name) (take x nodes) ≡ Some a
 called-among nodes x a m d l e own =
-    called-at 0 (or_bytes m.name) (take x nodes) a m (take-get x nodes a l ∙ e) (ap (is_called (or_bytes m.name)) own ∙ same-self (or_bytes m.name)) none ∙ ap Some (omega arith)
+    called-at 0 (or_bytes m.name) (take x nodes) a m (take-get x nodes a l ∙ e) (ap (is_called (or_bytes m.name)) own ∙ same_self (or_bytes m.name)) none ∙ ap Some (omega arith)
   where
     none : (j : ℕ) (p : Node) → j < a → slice_get (take x nodes) j ≡ Some p → is_called (or_bytes m.name) p.name ≡ false
     none j p b q = go p.name refl
@@ -100,5 +100,5 @@ called-among nodes x a m d l e own =
             apart : (t : Bool) → same_bytes (or_bytes m.name) bs ≡ t → same_bytes (or_bytes m.name) bs ≡ false
             apart false g = g
             apart true g =
-                let one : or_bytes m.name ≡ bs = same-equal (or_bytes m.name) bs g in
-                absurd (names-apart nodes j a p m bs (or_bytes m.name) d b (get-take x nodes j p q).1 e f own (subst (λ cs. same_bytes bs cs ≡ true) (sym one) (same-self bs)))
+                let one : or_bytes m.name ≡ bs = same_equal (or_bytes m.name) bs g in
+                absurd (names-apart nodes j a p m bs (or_bytes m.name) d b (get-take x nodes j p q).1 e f own (subst (λ cs. same_bytes bs cs ≡ true) (sym one) (same_self bs)))

@@ -10,7 +10,8 @@ use Rattle.tam_graph.specs.declared.node.Node.{Node}
 use Rattle.tam_graph.specs.Graphs.{Code, or_kind, kind_at, block_at, or_block, depth_at, or_depth, is_split, operands_of}
 use Rattle.tam_graph.specs.Written.{is_operand, is_line, named_by}
 use Rattle.tam_graph.specs.Built.{is_built_kind, names_earlier}
-use Rattle.tam_form.specs.Form.{gives_value, has_value_at, kind_fits, fit_behind}
+use Rattle.tam_graph.specs.Accepted.{same_place}
+use Rattle.tam_form.specs.Form.{same_interface, gives_value, has_value_at, kind_fits, fit_behind}
 use Rattle.tam_form.specs.Text.{main_code}
 use Rattle.tam_form.proofs.Places.{there}
 use Rattle.tam_form.proofs.Fitting.{Fits, node-fits, value-at}
@@ -33,6 +34,25 @@ fits-built earlier k h = h
 pub built-plain : (k : Kind) → is_built_kind k ≡ true → is_plain k ≡ true
 built-plain (Enter k) h = refl
 built-plain k h = h
+
+-- for a kind that is built there are no other places
+pub same-interface : (m k : Kind) → is_built_kind k ≡ true → same_place true m k ≡ same_interface m k
+same-interface (Param j) k h = by-param j k h
+  where
+    by-param : (j : ℕ) (k : Kind) → is_built_kind k ≡ true → same_place true (Param j) k ≡ same_interface (Param j) k
+    by-param j (Param k) h = refl
+    by-param j k h = refl
+same-interface (Give j a) k h = by-give j a k h
+  where
+    by-give : (j a : ℕ) (k : Kind) → is_built_kind k ≡ true → same_place true (Give j a) k ≡ same_interface (Give j a) k
+    by-give j a (Give k b) h = refl
+    by-give j a k h = refl
+same-interface m (Param k) h = refl
+same-interface m (Give k a) h = refl
+same-interface m (Const w) h = refl
+same-interface m (Operate o a b) h = refl
+same-interface m (Seq a b) h = refl
+same-interface m k h = absurd (true≢false (sym h))
 
 -- where the kind fits and gives a value, an operand stands
 operand : (c : Code) (a : ℕ) (earlier : List Node) (k : Kind) → nat_lt a (length c.nodes) ≡ true → kind_at c a ≡ k → kind_fits earlier k ≡ true

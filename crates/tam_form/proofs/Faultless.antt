@@ -13,12 +13,13 @@ use Rattle.tam_graph.specs.Edges.{Edges, reaches_itself}
 use Rattle.tam_graph.specs.Written.{named_by, IsWritten}
 use Rattle.tam_graph.specs.Built.{is_built_kind}
 use Rattle.tam_graph.specs.Accepted.{Cause, Wrong_block, Place_twice, Place_range, Place_missing, Depth_mismatch, Main_type, Cycle, in_wrong_block, is_wrong_block, same_place, is_place_twice, is_place_range, is_place_missing, has_right_depth, is_main_type, edges_to, value_edges, on_cycle, is_cycle, faults_at, faults_of, IsAccepted}
-use Rattle.tam_form.specs.Form.{kind_fits, has_place, fit_behind, names_differ, place_fits, places_fit, params_among, results_among}
+use Rattle.tam_graph.specs.NodeLists.{number_where}
+use Rattle.tam_form.specs.Form.{same_interface, kind_fits, has_place, fit_behind, names_differ, place_fits, places_fit}
 use Rattle.tam_form.specs.Text.{main_code, main_graph}
 use Rattle.tam_form.proofs.Places.{flat-none, sum-places, there, take-get, all-at, below-all}
 use Rattle.tam_form.proofs.Rising.{rising-none}
 use Rattle.tam_form.proofs.Fitting.{Fits, node-fits}
-use Rattle.tam_form.proofs.Facts.{is_plain, fits-built, blocks-zero, depths-zero, kinds-plain, kind-fits-at, names-before}
+use Rattle.tam_form.proofs.Facts.{is_plain, same-interface, fits-built, blocks-zero, depths-zero, kinds-plain, kind-fits-at, names-before}
 use Rattle.tam_form.proofs.Whole.{IsForm, form-written}
 
 -- where none passes, any doesn't
@@ -111,9 +112,10 @@ module _ (nodes : List Node) (form : IsForm nodes) where
       let m = there nodes y (omega arith) in
       let n = there nodes x l in
       let same : same_place true (or_kind (slice_get nodes y)) (or_kind (slice_get nodes x)) ≡ true = rw (blocks-zero nodes form.fit y, blocks-zero nodes form.fit x) at h in
-      let here : same_place true m.0.kind n.0.kind ≡ true = rw (m.1, n.1) at same in
+      let built : is_built_kind n.0.kind ≡ true = subst (λ k. is_built_kind k ≡ true) (ap or_kind n.1) (built-at x l) in
+      let here : same_interface m.0.kind n.0.kind ≡ true = sym (same-interface m.0.kind n.0.kind built) ∙ (rw (m.1, n.1) at same) in
       let among : In m.0 (take x nodes) = get-in (take x nodes) y m.0 (take-get x nodes y below_x ∙ m.1) in
-      true≢false (sym (in-any (λ m. same_place true m.kind n.0.kind) (take x nodes) m.0 among here) ∙ (node-fits nodes form.fit x n.0 n.1).place)
+      true≢false (sym (in-any (λ m. same_interface m.kind n.0.kind) (take x nodes) m.0 among here) ∙ (node-fits nodes form.fit x n.0 n.1).place)
 
   -- no place stands twice
   no-twice : (x : ℕ) → x < length nodes → is_place_twice (main_code nodes) x ≡ false
@@ -132,9 +134,9 @@ module _ (nodes : List Node) (form : IsForm nodes) where
   -- each place is in range
   no-beyond : (x : ℕ) (n : Node) (k : Kind) → slice_get nodes x ≡ Some n → n.kind ≡ k → is_built_kind k ≡ true → is_place_range (main_graph nodes) (main_code nodes) x k ≡ false
   no-beyond x n (Param k) s e h =
-      within k _ (params_among nodes) (number-among nodes is_any_param) (rw e at (all-at (λ n. place_fits (params_among nodes) (results_among nodes) n.kind) nodes form.places x n s))
+      within k _ (number_where is_any_param nodes) (number-among nodes is_any_param) (rw e at (all-at (λ n. place_fits (number_where is_any_param nodes) (number_where is_any_give nodes) n.kind) nodes form.places x n s))
   no-beyond x n (Give k a) s e h =
-      within k _ (results_among nodes) (number-among nodes is_any_give) (rw e at (all-at (λ n. place_fits (params_among nodes) (results_among nodes) n.kind) nodes form.places x n s))
+      within k _ (number_where is_any_give nodes) (number-among nodes is_any_give) (rw e at (all-at (λ n. place_fits (number_where is_any_param nodes) (number_where is_any_give nodes) n.kind) nodes form.places x n s))
   no-beyond x n (Const w) s e h = refl
   no-beyond x n (Operate o a b) s e h = refl
   no-beyond x n (Seq a b) s e h = refl

@@ -18,12 +18,13 @@ use Rattle.tam_graph.specs.Built.{IsBuilt, is_built_kind, names_earlier}
 use Rattle.tam_graph.specs.Accepted.{Cause, Wrong_block, Place_twice, Place_range, same_place, is_wrong_block, is_place_twice, is_place_range, has_right_depth, is_main_type, faults_at, IsAccepted}
 use Rattle.tam_graph.proofs.AcceptedFacts.{right-depth, right-main, right-line}
 use Rattle.tam_graph.proofs.Uncycled.{no-fault}
-use Rattle.tam_form.specs.Form.{gives_value, or_no_value, has_value_at, kind_fits, has_place, fits, fit_behind, names_differ, place_fits, places_fit, params_among, results_among}
+use Rattle.tam_graph.specs.NodeLists.{number_where}
+use Rattle.tam_form.specs.Form.{same_interface, gives_value, or_no_value, has_value_at, kind_fits, has_place, fits, fit_behind, names_differ, place_fits, places_fit}
 use Rattle.tam_form.specs.Text.{main_code, main_graph}
-use Rattle.tam_form.proofs.Bytes.{same-equal}
+use Rattle.tam_graph.proofs.SameBytes.{same_equal}
 use Rattle.tam_form.proofs.Places.{length-below, there, take-get, get-take, all-at, at-all, below-all}
 use Rattle.tam_form.proofs.Fitting.{Fits, at-fit, parts-fit}
-use Rattle.tam_form.proofs.Facts.{is_plain, built-plain}
+use Rattle.tam_form.proofs.Facts.{is_plain, same-interface, built-plain}
 use Rattle.tam_form.proofs.Flat.{file-order, opening-order}
 use Rattle.tam_form.proofs.Whole.{IsForm, vertices-nodes}
 use Rattle.tam_form.proofs.Faultless.{number-among}
@@ -92,7 +93,7 @@ module _ (g : Graph) (text : IsOfText g) (accepted : IsAccepted g) (built : IsBu
       first = sym main-zero ∙ text.main ∙ ap main_among codes-one
 
       go : (t : Bool) → same_bytes main_name (code_of g 0).name ≡ t → main_name ≡ (code_of g 0).name
-      go true e = same-equal main_name (code_of g 0).name e
+      go true e = same_equal main_name (code_of g 0).name e
       go false e = let z = rw e at first in absurd (cc)
 
   -- it is the graph of its nodes
@@ -217,11 +218,12 @@ module _ (nodes : List Node) (text : IsOfText (main_graph nodes)) (accepted : Is
       go true h =
           let c = main_code nodes in
           let l : x < length nodes = slice_get_within nodes x n e in
-          let m = any-in (λ m. same_place true m.kind n.kind) (take x nodes) h in
+          let m = any-in (λ m. same_interface m.kind n.kind) (take x nodes) h in
           let y = in-get m.0 (take x nodes) m.1 in
           let q = get-take x nodes y.0 m.0 y.1 in
           let zeros : (block_at c y.0 == block_at c x) ≡ true = rw (body-at y.0 (omega (arith, q.0)), body-at x l) refl in
-          let same : same_place (block_at c y.0 == block_at c x) (kind_at c y.0) (kind_at c x) ≡ true = rw (zeros, q.1, e) m.2 in
+          let same : same_place (block_at c y.0 == block_at c x) (kind_at c y.0) (kind_at c x) ≡ true =
+              rw (zeros, q.1, e) (same-interface m.0.kind n.kind (subst (λ k. is_built_kind k ≡ true) (ap or_kind e) (built-kind-at x l)) ∙ m.2) in
           absurd (true≢false (sym (in-any (λ y. same_place (block_at c y == block_at c x) (kind_at c y) (kind_at c x)) (below x) y.0 (below-in y.0 x q.0) same) ∙ (no-twice-range x l).0))
 
   -- the node at a place fits
@@ -243,9 +245,9 @@ module _ (nodes : List Node) (text : IsOfText (main_graph nodes)) (accepted : Is
       go false p = absurd (true≢false (rw (beyond, p) at h))
 
   -- its place is in range
-  place-within : (x : ℕ) (k : Kind) → is_place_range (main_graph nodes) (main_code nodes) x k ≡ false → place_fits (params_among nodes) (results_among nodes) k ≡ true
-  place-within x (Param k) h = within k _ (params_among nodes) (number-among nodes is_any_param) h
-  place-within x (Give k a) h = within k _ (results_among nodes) (number-among nodes is_any_give) h
+  place-within : (x : ℕ) (k : Kind) → is_place_range (main_graph nodes) (main_code nodes) x k ≡ false → place_fits (number_where is_any_param nodes) (number_where is_any_give nodes) k ≡ true
+  place-within x (Param k) h = within k _ (number_where is_any_param nodes) (number-among nodes is_any_param) h
+  place-within x (Give k a) h = within k _ (number_where is_any_give nodes) (number-among nodes is_any_give) h
   place-within x k h = refl
 
   -- the nodes are a form
@@ -256,6 +258,6 @@ module _ (nodes : List Node) (text : IsOfText (main_graph nodes)) (accepted : Is
         subst (λ n. nat_lt n 129 ≡ true) (vertices-nodes (main_code nodes) 0 flat ∙ (ap length body ∙ length-below (length nodes))) small;
     fit = at-fit [] nodes fits-at;
     names = of-text.nodes_differ;
-    places = at-all (λ n. place_fits (params_among nodes) (results_among nodes) n.kind) nodes (λ x n e.
+    places = at-all (λ n. place_fits (number_where is_any_param nodes) (number_where is_any_give nodes) n.kind) nodes (λ x n e.
         place-within x n.kind (subst (λ k. is_place_range (main_graph nodes) (main_code nodes) x k ≡ false) (ap or_kind e) (no-twice-range x (slice_get_within nodes x n e)).1));
   }

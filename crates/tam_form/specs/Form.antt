@@ -6,7 +6,7 @@ use Rattle.tam_graph.specs.declared.kind.Kind.{Kind}
 use Rattle.tam_graph.specs.declared.kind.Kind.TheVariants.{Param, Const, Op as Operate, Seq, Give}
 use Rattle.tam_graph.specs.declared.node.Node.{Node}
 use Rattle.tam_graph.specs.Graphs.{is_any_param, is_any_give}
-use Rattle.tam_graph.specs.Accepted.{same_place}
+use Rattle.tam_graph.specs.NodeLists.{number_where}
 use Rattle.tam_graph.specs.Reading.{is_named_right, given_names}
 
 -- of the kinds that are built each but a result has a value
@@ -32,9 +32,15 @@ kind_fits earlier (Seq a b) = has_value_at earlier a && has_value_at earlier b
 kind_fits earlier (Give k a) = has_value_at earlier a && nat_lt k 64
 kind_fits earlier _ = false
 
+-- two params of one place, or two results
+abbrev pub same_interface : Kind → Kind → Bool
+same_interface (Param j) (Param k) = j == k
+same_interface (Give j a) (Give k b) = j == k
+same_interface _ _ = false
+
 -- one of the nodes stands for the place for which such a node stands
 abbrev pub has_place : List Node → Kind → Bool
-has_place earlier k = any_of (λ m. same_place true m.kind k) earlier
+has_place earlier k = any_of (λ m. same_interface m.kind k) earlier
 
 -- the node may stand behind these
 abbrev pub fits : List Node → Node → Bool
@@ -49,14 +55,6 @@ fit_behind earlier (n ∷ ns) = elim (fits earlier n) [ true ↦ fit_behind (ear
 abbrev pub names_differ : List Node → Bool
 names_differ nodes = all_differ same_bytes (given_names (map (λ n. n.name) nodes))
 
--- how many params there are
-abbrev pub params_among : List Node → ℕ
-params_among nodes = count_by (λ n. is_any_param n.kind) nodes
-
--- how many results there are
-abbrev pub results_among : List Node → ℕ
-results_among nodes = count_by (λ n. is_any_give n.kind) nodes
-
 -- the place is below the size of its interface
 abbrev pub place_fits : ℕ → ℕ → Kind → Bool
 place_fits params results (Param k) = nat_lt k params
@@ -65,7 +63,7 @@ place_fits params results _ = true
 
 -- so each place
 abbrev pub places_fit : List Node → Bool
-places_fit nodes = all_of (λ n. place_fits (params_among nodes) (results_among nodes) n.kind) nodes
+places_fit nodes = all_of (λ n. place_fits (number_where is_any_param nodes) (number_where is_any_give nodes) n.kind) nodes
 
 -- the nodes are those of a graph that is built
 abbrev pub is_form : List Node → Bool

@@ -11,5 +11,7 @@ pub mod Canonical
 pub mod Plain
 pub mod Cutting
 pub mod Called
+pub mod OpCalled
 pub mod NodeRead
 pub mod TextRead
+pub mod Steps

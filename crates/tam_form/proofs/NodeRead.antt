@@ -23,6 +23,7 @@ use Rattle.tam_form.proofs.Fitting.{Fits, node-fits, value-at}
 use Rattle.tam_form.proofs.Canonical.{place-text}
 use Rattle.tam_form.proofs.Plain.{is_word, signed-word, name-word, op-word}
 use Rattle.tam_form.proofs.Cutting.{spaced}
+use Rattle.tam_form.proofs.OpCalled.{op-called}
 use Rattle.tam_form.proofs.Called.{name-there, name-absent, called-among}
 
 -- the first word of a node's line
@@ -61,25 +62,6 @@ line-spaced nodes earlier name (Operate o a b) h = eight name (codes " = ") (op_
 line-spaced nodes earlier name (Seq a b) h = six name (codes " = seq ") (name_at nodes a) (codes " ") (name_at nodes b) (codes "\n")
 line-spaced nodes earlier name (Give k a) h = five (codes "result ") (signed_text k) (codes " ") (name_at nodes a) (codes "\n")
 line-spaced nodes earlier name k h = absurd (true≢false (sym h))
-
--- an operator's name calls the operator
-op-called : (o : Op) → op_called (op_name o) ≡ Some o
-op-called Add = refl
-op-called Sub = refl
-op-called Mul = refl
-op-called Div = refl
-op-called Divu = refl
-op-called Rem = refl
-op-called Remu = refl
-op-called And = refl
-op-called Or = refl
-op-called Xor = refl
-op-called Sll = refl
-op-called Srl = refl
-op-called Sra = refl
-op-called Slt = refl
-op-called Sltu = refl
-op-called Eq = refl
 
 -- no operator is called `seq`
 not-seq : (o : Op) → same_bytes (op_name o) (codes "seq") ≡ false

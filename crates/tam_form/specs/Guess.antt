@@ -84,9 +84,13 @@ kind_by_operands nodes verb a b =
       | false ↦ operation (op_called verb) (both_called nodes a b)
     ]
 
+-- a result
+abbrev pub give_read : List Node → List ℕ → List ℕ → Option Node
+give_read nodes place a = joined (λ k a. unnamed (Give k a)) (place_of place) (number_called 0 a nodes)
+
 -- the node that a line of these words can stand for, behind these nodes
 abbrev pub node_read : List Node → List (List ℕ) → Option Node
-node_read nodes (verb ∷ place ∷ a ∷ []) = joined (λ k a. unnamed (Give k a)) (place_of place) (number_called 0 a nodes)
+node_read nodes (verb ∷ place ∷ a ∷ []) = give_read nodes place a
 node_read nodes (name ∷ sign ∷ verb ∷ number ∷ []) = joined named (name_of name) (kind_by_number verb number)
 node_read nodes (name ∷ sign ∷ verb ∷ a ∷ b ∷ []) = joined named (name_of name) (kind_by_operands nodes verb a b)
 node_read nodes _ = None

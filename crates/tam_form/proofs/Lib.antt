@@ -15,3 +15,4 @@ pub mod OpCalled
 pub mod NodeRead
 pub mod TextRead
 pub mod Steps
+pub mod Results

@@ -1,7 +1,7 @@
 -- A node of a form is found by its name.
-use Rattle.std.proofs.Common.{◌≡◌, ℕ, zero, suc, ◌+◌, ◌<◌, ◌≤◌, List, [], ◌∷◌, ◌++◌, Bool, true, false, not, refl, sym, ap, ◌∙◌, subst, arith, length, true≢false, ◌==◌, ◌&&◌, take, map, slice_get, Some, None, zero-add, inl, inr}
+use Rattle.std.proofs.Common.{◌≡◌, ℕ, zero, suc, ◌+◌, ◌<◌, List, [], ◌∷◌, Bool, true, false, refl, sym, ap, ◌∙◌, subst, arith, true≢false, take, map, slice_get, Some, None, inl, inr}
 use Rattle.std.specs.Prelude.{Option, is_none}
-use Rattle.tam_word.specs.Lists.{all_of, any_of, all_differ, same_bytes}
+use Rattle.tam_word.specs.Lists.{any_of, all_differ, same_bytes}
 use Rattle.tam_word.proofs.Members.{In, in-any}
 use Rattle.tam_graph.specs.declared.node.Node.{Node}
 use Rattle.tam_graph.specs.Names.{is_name}

@@ -1,5 +1,5 @@
 -- The canonical text of the graph of nodes that are a form, written out.
-use Rattle.std.proofs.Common.{◌≡◌, ℕ, zero, suc, ◌^◌, ◌<◌, ◌≤◌, List, [], ◌∷◌, ◌++◌, Bool, true, false, refl, sym, ap, ◌∙◌, subst, arith, length, map, filter, flat_map, Some, None, true≢false, ◌&&◌, nat_lt, tests, take, slice_get, cond, append_assoc, inl, inr}
+use Rattle.std.proofs.Common.{◌≡◌, ℕ, ◌^◌, ◌<◌, List, [], ◌∷◌, ◌++◌, true, false, refl, sym, ap, ◌∙◌, arith, length, map, flat_map, Some, true≢false, nat_lt, take, slice_get, append_assoc, inl, inr}
 use Rattle.std.specs.Prelude.{Option, decimal, codes}
 use Rattle.std.proofs.Math.Seq.{take-length}
 use Rattle.std.proofs.lemmas.List.{append-nil}
@@ -10,15 +10,15 @@ use Rattle.tam_word.specs.OpNames.{op_name}
 use Rattle.tam_word.proofs.Tests.{test-below, below-test, both-true}
 use Rattle.tam_word.proofs.Members.{In, in-get}
 use Rattle.tam_graph.specs.declared.kind.Kind.{Kind}
-use Rattle.tam_graph.specs.declared.kind.Kind.TheVariants.{Param, Const, Op as Operate, Seq, Call, Arg, Ret, Give, Alloc, Fetch, Store, Cond, Switch, Merge, Enter, Leave}
+use Rattle.tam_graph.specs.declared.kind.Kind.TheVariants.{Param, Const, Op as Operate, Seq, Give}
 use Rattle.tam_graph.specs.declared.node.Node.{Node}
-use Rattle.tam_graph.specs.Graphs.{Code, Graph, or_kind, or_depth, nodes_in}
-use Rattle.tam_graph.specs.Written.{Visit, AtNode, visits}
-use Rattle.tam_graph.specs.Texts.{Token, Bytes, Number, Line, or_bytes, or_name, tokens, is_named, suffix, node_line, visit_line, line_text, end_line, canonical}
+use Rattle.tam_graph.specs.Graphs.{or_kind, or_depth}
+use Rattle.tam_graph.specs.Written.{AtNode, visits}
+use Rattle.tam_graph.specs.Texts.{Bytes, Line, or_bytes, or_name, tokens, is_named, suffix, visit_line, line_text, end_line, canonical}
 use Rattle.tam_form.specs.Form.{has_value_at, kind_fits, fit_behind}
 use Rattle.tam_form.specs.Text.{main_code, main_graph, name_at, line_of, line_at, text_of, head_text, end_text}
 use Rattle.tam_form.proofs.Places.{flat-places}
-use Rattle.tam_form.proofs.Fitting.{Fits, node-fits}
+use Rattle.tam_form.proofs.Fitting.{node-fits}
 use Rattle.tam_form.proofs.Facts.{blocks-zero, kinds-plain}
 use Rattle.tam_form.proofs.Flat.{visits-plain, all-in-body}
 
@@ -60,13 +60,13 @@ module _ (nodes : List Node) where
   -- the text of the line of each kind
   kind-line : (earlier : List Node) (name : List ℕ) (k : Kind) → kind_fits earlier k ≡ true
       → line_text (elim (is_named k) [ true ↦ Bytes (name ++ []) ∷ Bytes (codes "=") ∷ tokens (main_graph nodes) (main_code nodes) k | false ↦ tokens (main_graph nodes) (main_code nodes) k ]) ≡ line_of nodes name k
-  kind-line earlier name (Param k) h = 
+  kind-line earlier name (Param k) h =
       ap (λ t. line_text (Bytes (name ++ []) ∷ Bytes (codes "=") ∷ Bytes (codes "param") ∷ Bytes t ∷ [])) (place-text k h)
       ∙ (rw append-nil (sym (four name (codes " = param ") (signed_text k) (codes "\n"))))
   kind-line earlier name (Const w) h = rw append-nil (sym (four name (codes " = const ") (signed_text w) (codes "\n")))
   kind-line earlier name (Operate o a b) h = rw append-nil (sym (eight name (codes " = ") (op_name o) (codes " ") (name_at nodes a) (codes " ") (name_at nodes b) (codes "\n")))
   kind-line earlier name (Seq a b) h = rw append-nil (sym (six name (codes " = seq ") (name_at nodes a) (codes " ") (name_at nodes b) (codes "\n")))
-  kind-line earlier name (Give k a) h = 
+  kind-line earlier name (Give k a) h =
       ap (λ t. line_text (Bytes (codes "result") ∷ Bytes t ∷ Bytes (name_at nodes a) ∷ [])) (place-text k (both-true (has_value_at earlier a) (nat_lt k 64) h).1)
       ∙ sym (five (codes "result ") (signed_text k) (codes " ") (name_at nodes a) (codes "\n"))
   kind-line earlier name k h = absurd (true≢false (sym h))

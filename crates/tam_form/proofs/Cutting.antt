@@ -1,10 +1,9 @@
 -- Words with one blank between make a line that is cut into them again.
-use Rattle.std.proofs.Common.{◌≡◌, ℕ, zero, suc, ◌<◌, ◌≤◌, List, [], ◌∷◌, ◌++◌, Bool, true, false, not, refl, sym, ap, ◌∙◌, subst, arith, length, true≢false, ◌==◌, ◌&&◌, nat_lt, tests, Some, append_assoc}
+use Rattle.std.proofs.Common.{◌≡◌, ℕ, List, [], ◌∷◌, ◌++◌, Bool, true, false, refl, sym, ap, ◌∙◌, arith, true≢false, ◌==◌, nat_lt, tests, Some, append_assoc}
 use Rattle.std.proofs.lemmas.List.{append-nil}
 use Rattle.std.specs.Option.{option_map}
-use Rattle.std.specs.List.{onto_first, slice_split}
+use Rattle.std.specs.List.{onto_first}
 use Rattle.tam_word.specs.Lists.{all_of}
-use Rattle.tam_word.proofs.Tests.{both-true}
 use Rattle.tam_form.specs.Guess.{cut, words_of}
 use Rattle.tam_form.proofs.Plain.{is_word}
 

@@ -1,20 +1,20 @@
 -- What is true of each place of the code of nodes that are a form, also of a place where no node stands.
-use Rattle.std.proofs.Common.{◌≡◌, ℕ, zero, suc, ◌^◌, ◌<◌, ◌≤◌, List, [], ◌∷◌, ◌++◌, Bool, true, false, not, refl, sym, ap, ◌∙◌, subst, arith, take, length, Some, None, slice_get, true≢false, ◌==◌, ◌&&◌, nat_lt}
+use Rattle.std.proofs.Common.{◌≡◌, ℕ, ◌<◌, List, [], Bool, true, refl, sym, ap, ◌∙◌, take, length, Some, None, slice_get, true≢false, nat_lt}
 use Rattle.std.specs.Prelude.{Option}
 use Rattle.std.proofs.lemmas.Option.{slice_get_within}
-use Rattle.tam_word.specs.Lists.{all_of, below}
-use Rattle.tam_word.proofs.Tests.{both-true, true-both, below-test}
+use Rattle.tam_word.specs.Lists.{all_of}
+use Rattle.tam_word.proofs.Tests.{both-true, below-test}
 use Rattle.tam_graph.specs.declared.kind.Kind.{Kind}
-use Rattle.tam_graph.specs.declared.kind.Kind.TheVariants.{Param, Const, Op as Operate, Seq, Call, Arg, Ret, Give, Alloc, Fetch, Store, Cond, Switch, Merge, Enter, Leave}
+use Rattle.tam_graph.specs.declared.kind.Kind.TheVariants.{Param, Const, Op as Operate, Seq, Give, Enter}
 use Rattle.tam_graph.specs.declared.node.Node.{Node}
-use Rattle.tam_graph.specs.Graphs.{Code, or_kind, kind_at, block_at, or_block, depth_at, or_depth, is_split, operands_of}
+use Rattle.tam_graph.specs.Graphs.{Code, or_kind, kind_at, block_at, or_block, depth_at, or_depth}
 use Rattle.tam_graph.specs.Written.{is_operand, is_line, named_by}
-use Rattle.tam_graph.specs.Built.{is_built_kind, names_earlier}
+use Rattle.tam_graph.specs.Built.{is_built_kind}
 use Rattle.tam_graph.specs.Accepted.{same_place}
 use Rattle.tam_form.specs.Form.{same_interface, gives_value, has_value_at, kind_fits, fit_behind}
 use Rattle.tam_form.specs.Text.{main_code}
 use Rattle.tam_form.proofs.Places.{there}
-use Rattle.tam_form.proofs.Fitting.{Fits, node-fits, value-at}
+use Rattle.tam_form.proofs.Fitting.{node-fits, value-at}
 
 -- the kind is one of those that are built, or none stands there
 abbrev pub is_plain : Kind → Bool

@@ -1,25 +1,25 @@
 -- The graph of nodes that are a form has no fault.
-use Rattle.std.proofs.Common.{◌≡◌, ℕ, zero, suc, ◌<◌, ◌≤◌, List, [], ◌∷◌, ◌++◌, Bool, true, false, not, refl, sym, ap, ◌∙◌, subst, arith, length, map, filter, flat_map, Some, None, true≢false, ◌==◌, ◌&&◌, ◌||◌, nat_lt, tests, take, slice_get, cond, inl}
-use Rattle.std.specs.Prelude.{Option, sum_by}
+use Rattle.std.proofs.Common.{◌≡◌, ℕ, ◌<◌, List, [], ◌∷◌, ◌++◌, Bool, true, false, not, refl, sym, ap, ◌∙◌, subst, arith, length, map, flat_map, Some, true≢false, ◌==◌, nat_lt, take, slice_get, cond}
+use Rattle.std.specs.Prelude.{sum_by}
 use Rattle.std.proofs.Math.Seq.{take-length}
-use Rattle.tam_word.specs.Lists.{below, all_of, any_of, first_of, has, beyond, where_so}
-use Rattle.tam_word.proofs.Tests.{test-below, below-test}
+use Rattle.tam_word.specs.Lists.{below, any_of, first_of, has, beyond, where_so}
+use Rattle.tam_word.proofs.Tests.{test-below}
 use Rattle.tam_word.proofs.Members.{In, in-flat_map, in-map, in-filter, in-below, in-any, any-in, get-in, all-in}
 use Rattle.tam_graph.specs.declared.kind.Kind.{Kind}
-use Rattle.tam_graph.specs.declared.kind.Kind.TheVariants.{Param, Const, Op as Operate, Seq, Call, Arg, Ret, Give, Alloc, Fetch, Store, Cond, Switch, Merge, Enter, Leave}
+use Rattle.tam_graph.specs.declared.kind.Kind.TheVariants.{Param, Const, Op as Operate, Seq, Call, Give, Alloc, Fetch}
 use Rattle.tam_graph.specs.declared.node.Node.{Node}
-use Rattle.tam_graph.specs.Graphs.{Code, Graph, code_of, or_kind, kind_at, block_at, depth_at, nodes_in, node_numbers, is_split, operands_of, is_any_param, is_any_give, number_of, params_of, results_of}
-use Rattle.tam_graph.specs.Edges.{Edges, reaches_itself}
+use Rattle.tam_graph.specs.Graphs.{Code, Graph, code_of, or_kind, kind_at, block_at, depth_at, nodes_in, node_numbers, is_split, operands_of, is_any_param, is_any_give, number_of}
+use Rattle.tam_graph.specs.Edges.{reaches_itself}
 use Rattle.tam_graph.specs.Written.{named_by, IsWritten}
 use Rattle.tam_graph.specs.Built.{is_built_kind}
-use Rattle.tam_graph.specs.Accepted.{Cause, Wrong_block, Place_twice, Place_range, Place_missing, Depth_mismatch, Main_type, Cycle, in_wrong_block, is_wrong_block, same_place, is_place_twice, is_place_range, is_place_missing, has_right_depth, is_main_type, edges_to, value_edges, on_cycle, is_cycle, faults_at, faults_of, IsAccepted}
+use Rattle.tam_graph.specs.Accepted.{Cause, Wrong_block, Place_twice, Place_range, Place_missing, Depth_mismatch, Main_type, Cycle, in_wrong_block, is_wrong_block, same_place, is_place_twice, is_place_range, is_place_missing, has_right_depth, is_main_type, edges_to, value_edges, is_cycle, faults_at, IsAccepted}
 use Rattle.tam_graph.specs.NodeLists.{number_where}
-use Rattle.tam_form.specs.Form.{same_interface, kind_fits, has_place, fit_behind, names_differ, place_fits, places_fit}
+use Rattle.tam_form.specs.Form.{same_interface, place_fits}
 use Rattle.tam_form.specs.Text.{main_code, main_graph}
-use Rattle.tam_form.proofs.Places.{flat-none, sum-places, there, take-get, all-at, below-all}
+use Rattle.tam_form.proofs.Places.{flat-none, sum-places, there, take-get, all-at}
 use Rattle.tam_form.proofs.Rising.{rising-none}
-use Rattle.tam_form.proofs.Fitting.{Fits, node-fits}
-use Rattle.tam_form.proofs.Facts.{is_plain, same-interface, fits-built, blocks-zero, depths-zero, kinds-plain, kind-fits-at, names-before}
+use Rattle.tam_form.proofs.Fitting.{node-fits}
+use Rattle.tam_form.proofs.Facts.{same-interface, fits-built, blocks-zero, depths-zero, kind-fits-at, names-before}
 use Rattle.tam_form.proofs.Whole.{IsForm, form-written}
 
 -- where none passes, any doesn't

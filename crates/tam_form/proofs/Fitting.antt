@@ -1,12 +1,9 @@
 -- What each node of a form is, by its place.
-use Rattle.std.proofs.Common.{◌≡◌, ℕ, zero, suc, ◌^◌, ◌<◌, ◌≤◌, List, [], ◌∷◌, ◌++◌, Bool, true, false, not, refl, sym, ap, ◌∙◌, subst, arith, take, length, Some, None, slice_get, append_assoc, true≢false, ◌==◌, ◌&&◌, nat_lt}
+use Rattle.std.proofs.Common.{◌≡◌, ℕ, zero, suc, ◌<◌, List, [], ◌∷◌, ◌++◌, Bool, true, false, refl, sym, ap, ◌∙◌, subst, take, Some, None, slice_get, append_assoc, true≢false, ◌==◌}
 use Rattle.std.specs.Prelude.{Option}
 use Rattle.std.proofs.lemmas.List.{append-nil}
-use Rattle.tam_word.proofs.Tests.{number-eq, eq-number, both-true, true-both, not-true}
-use Rattle.tam_graph.specs.declared.kind.Kind.{Kind}
-use Rattle.tam_graph.specs.declared.kind.Kind.TheVariants.{Param, Const, Op as Operate, Seq, Call, Arg, Ret, Give, Alloc, Fetch, Store, Cond, Switch, Merge, Enter, Leave}
+use Rattle.tam_word.proofs.Tests.{number-eq, eq-number, both-true, not-true}
 use Rattle.tam_graph.specs.declared.node.Node.{Node}
-use Rattle.tam_graph.specs.Graphs.{or_kind}
 use Rattle.tam_graph.specs.Reading.{is_named_right}
 use Rattle.tam_form.specs.Form.{gives_value, or_no_value, has_value_at, kind_fits, has_place, fits, fit_behind}
 use Rattle.tam_form.proofs.Places.{get-take}

@@ -1,11 +1,9 @@
 -- A code of plain nodes in block 0 has one line for each node, in order.
-use Rattle.std.proofs.Common.{◌≡◌, ℕ, zero, suc, List, [], ◌∷◌, ◌++◌, Bool, true, false, refl, sym, ap, ◌∙◌, subst, length, map, filter, flat_map, Some, None, true≢false, ◌==◌}
-use Rattle.std.specs.Prelude.{Option}
-use Rattle.tam_word.specs.Lists.{below}
+use Rattle.std.proofs.Common.{◌≡◌, ℕ, zero, suc, List, [], ◌∷◌, true, refl, sym, ap, ◌∙◌, map, flat_map, true≢false, ◌==◌}
 use Rattle.tam_graph.specs.declared.kind.Kind.{Kind}
-use Rattle.tam_graph.specs.declared.kind.Kind.TheVariants.{Param, Const, Op as Operate, Seq, Call, Arg, Ret, Give, Alloc, Fetch, Store, Cond, Switch, Merge, Enter, Leave}
+use Rattle.tam_graph.specs.declared.kind.Kind.TheVariants.{Cond}
 use Rattle.tam_graph.specs.Graphs.{Code, kind_at, block_at, nodes_in, node_numbers}
-use Rattle.tam_graph.specs.Written.{Visit, AtNode, AtElse, AtEnd, branches, visits, node_visited, opened_by, in_file_order, in_opening_order}
+use Rattle.tam_graph.specs.Written.{Visit, AtNode, branches, visits, node_visited, opened_by, in_file_order, in_opening_order}
 use Rattle.tam_form.proofs.Facts.{is_plain}
 use Rattle.tam_form.proofs.Places.{filter-whole}
 

@@ -1,29 +1,29 @@
 -- A graph that is accepted and built is that of its nodes, and they are a form.
-use Rattle.std.proofs.Common.{◌≡◌, ℕ, zero, suc, ◌^◌, ◌<◌, ◌≤◌, List, [], ◌∷◌, ◌++◌, Bool, true, false, not, refl, sym, ap, ◌∙◌, subst, arith, length, map, filter, flat_map, Some, None, true≢false, ◌==◌, ◌&&◌, ◌||◌, nat_lt, nat_le, tests, take, slice_get, cond, inl, inr, ◌⊎◌}
-use Rattle.std.specs.Prelude.{Option, sum_by, min}
-use Rattle.std.specs.List.{zip, position_or_len}
+use Rattle.std.proofs.Common.{◌≡◌, ℕ, zero, suc, ◌<◌, ◌≤◌, List, [], ◌∷◌, Bool, true, false, not, refl, sym, ap, ◌∙◌, subst, arith, length, Some, None, true≢false, ◌==◌, ◌&&◌, nat_lt, nat_le, tests, take, slice_get, inl, inr, ◌⊎◌}
+use Rattle.std.specs.Prelude.{Option}
+use Rattle.std.specs.List.{zip}
 use Rattle.std.proofs.lemmas.Option.{slice_get_within}
 use Rattle.std.proofs.lemmas.Slice.Zip.{length-zip}
-use Rattle.tam_word.specs.Lists.{below, all_of, any_of, has, beyond, where_so, same_bytes, same_list}
+use Rattle.tam_word.specs.Lists.{below, all_of, beyond, where_so, same_bytes}
 use Rattle.tam_word.proofs.Tests.{test-below, below-test, both-true, true-both, number-eq}
 use Rattle.tam_word.proofs.Each.{last-or_before}
 use Rattle.tam_word.proofs.Members.{In, in-filter, below-in, in-any, any-in, all-in, in-get, none-left, none-right}
 use Rattle.tam_graph.specs.declared.kind.Kind.{Kind}
-use Rattle.tam_graph.specs.declared.kind.Kind.TheVariants.{Param, Const, Op as Operate, Seq, Call, Arg, Ret, Give, Alloc, Fetch, Store, Cond, Switch, Merge, Enter, Leave}
+use Rattle.tam_graph.specs.declared.kind.Kind.TheVariants.{Param, Const, Op as Operate, Seq, Give}
 use Rattle.tam_graph.specs.declared.node.Node.{Node}
-use Rattle.tam_graph.specs.Graphs.{Code, Graph, graph_of, code_of, main_among, main_name, or_kind, kind_at, block_at, or_block, depth_at, or_depth, nodes_in, node_numbers, blocks_of, is_any_param, is_any_give, has_value}
-use Rattle.tam_graph.specs.Written.{IsWritten, is_operand, is_line, named_by, number_of_vertices, in_opening_order, greatest_depth}
+use Rattle.tam_graph.specs.Graphs.{Code, Graph, code_of, main_among, main_name, or_kind, kind_at, block_at, or_block, depth_at, or_depth, nodes_in, node_numbers, is_any_param, is_any_give, has_value}
+use Rattle.tam_graph.specs.Written.{IsWritten, is_operand, named_by, number_of_vertices, greatest_depth}
 use Rattle.tam_graph.specs.Reading.{is_named_right, IsCodeOfText, IsOfText}
 use Rattle.tam_graph.specs.Built.{IsBuilt, is_built_kind, names_earlier}
-use Rattle.tam_graph.specs.Accepted.{Cause, Wrong_block, Place_twice, Place_range, same_place, is_wrong_block, is_place_twice, is_place_range, has_right_depth, is_main_type, faults_at, IsAccepted}
+use Rattle.tam_graph.specs.Accepted.{Wrong_block, Place_twice, Place_range, same_place, is_wrong_block, is_place_twice, is_place_range, IsAccepted}
 use Rattle.tam_graph.proofs.AcceptedFacts.{right-depth, right-main, right-line}
 use Rattle.tam_graph.proofs.Uncycled.{no-fault}
 use Rattle.tam_graph.specs.NodeLists.{number_where}
-use Rattle.tam_form.specs.Form.{same_interface, gives_value, or_no_value, has_value_at, kind_fits, has_place, fits, fit_behind, names_differ, place_fits, places_fit}
+use Rattle.tam_form.specs.Form.{same_interface, gives_value, or_no_value, has_value_at, kind_fits, has_place, fits, place_fits}
 use Rattle.tam_form.specs.Text.{main_code, main_graph}
 use Rattle.tam_graph.proofs.SameBytes.{same_equal}
 use Rattle.tam_form.proofs.Places.{length-below, there, take-get, get-take, all-at, at-all, below-all}
-use Rattle.tam_form.proofs.Fitting.{Fits, at-fit, parts-fit}
+use Rattle.tam_form.proofs.Fitting.{at-fit, parts-fit}
 use Rattle.tam_form.proofs.Facts.{is_plain, same-interface, built-plain}
 use Rattle.tam_form.proofs.Flat.{file-order, opening-order}
 use Rattle.tam_form.proofs.Whole.{IsForm, vertices-nodes}
@@ -204,10 +204,11 @@ module _ (nodes : List Node) (text : IsOfText (main_graph nodes)) (accepted : Is
   no-twice-range x l =
       let c = main_code nodes in
       let none = no-fault (main_graph nodes) accepted 0 x in-one (below-in x (length nodes) l) in
-      let behind = none-right (where_so (is_wrong_block c x) Wrong_block) _ none in
-      (not-so (is_place_twice c x) Place_twice (none-left (where_so (is_place_twice c x) Place_twice) _ behind),
-      not-so (is_place_range (main_graph nodes) c x (kind_at c x)) Place_range
-      (none-left (where_so (is_place_range (main_graph nodes) c x (kind_at c x)) Place_range) _ (none-right (where_so (is_place_twice c x) Place_twice) _ behind)))
+      let behind = none-right (where_so (is_wrong_block c x) Wrong_block) _ none in (
+        not-so (is_place_twice c x) Place_twice (none-left (where_so (is_place_twice c x) Place_twice) _ behind),
+        not-so (is_place_range (main_graph nodes) c x (kind_at c x)) Place_range
+            (none-left (where_so (is_place_range (main_graph nodes) c x (kind_at c x)) Place_range) _ (none-right (where_so (is_place_twice c x) Place_twice) _ behind)),
+      )
 
   -- no node before it stands for its place
   place-alone : (x : ℕ) (n : Node) → slice_get nodes x ≡ Some n → has_place (take x nodes) n.kind ≡ false
@@ -223,7 +224,7 @@ module _ (nodes : List Node) (text : IsOfText (main_graph nodes)) (accepted : Is
           let q = get-take x nodes y.0 m.0 y.1 in
           let zeros : (block_at c y.0 == block_at c x) ≡ true = rw (body-at y.0 (omega (arith, q.0)), body-at x l) refl in
           let same : same_place (block_at c y.0 == block_at c x) (kind_at c y.0) (kind_at c x) ≡ true =
-              rw (zeros, q.1, e) (same-interface m.0.kind n.kind (subst (λ k. is_built_kind k ≡ true) (ap or_kind e) (built-kind-at x l)) ∙ m.2) in
+          rw (zeros, q.1, e) (same-interface m.0.kind n.kind (subst (λ k. is_built_kind k ≡ true) (ap or_kind e) (built-kind-at x l)) ∙ m.2) in
           absurd (true≢false (sym (in-any (λ y. same_place (block_at c y == block_at c x) (kind_at c y) (kind_at c x)) (below x) y.0 (below-in y.0 x q.0) same) ∙ (no-twice-range x l).0))
 
   -- the node at a place fits

@@ -1,9 +1,9 @@
 -- The line of a node of a form reads as that node.
-use Rattle.std.proofs.Common.{◌≡◌, ℕ, zero, suc, ◌^◌, ◌<◌, ◌≤◌, List, [], ◌∷◌, ◌++◌, Bool, true, false, refl, sym, ap, ◌∙◌, subst, arith, length, true≢false, ◌&&◌, nat_lt, tests, take, slice_get, Some, None, append_assoc}
-use Rattle.std.specs.Prelude.{Option, decimal, codes}
+use Rattle.std.proofs.Common.{◌≡◌, ℕ, ◌^◌, ◌<◌, List, [], ◌∷◌, ◌++◌, Bool, true, false, refl, sym, ap, ◌∙◌, subst, arith, true≢false, nat_lt, take, slice_get, Some, None, append_assoc}
+use Rattle.std.specs.Prelude.{Option, codes}
 use Rattle.tam_word.specs.Lists.{all_of, same_bytes}
 use Rattle.tam_word.specs.Words.{signed_text}
-use Rattle.tam_word.specs.Numbers.{place_of, word_of, some_if}
+use Rattle.tam_word.specs.Numbers.{place_of}
 use Rattle.tam_word.specs.OpNames.{op_name}
 use Rattle.tam_word.specs.declared.op.Op.{Op}
 use Rattle.tam_word.specs.declared.op.Op.TheVariants.{Add, Sub, Mul, Div, Divu, Rem, Remu, And, Or, Xor, Sll, Srl, Sra, Slt, Sltu, Eq}
@@ -11,14 +11,13 @@ use Rattle.tam_word.proofs.Tests.{test-below, both-true}
 use Rattle.tam_word.proofs.Spelled.{decimal_up_to-again}
 use Rattle.tam_word.proofs.SignedText.{word_of-signed_text}
 use Rattle.tam_graph.specs.declared.kind.Kind.{Kind}
-use Rattle.tam_graph.specs.declared.kind.Kind.TheVariants.{Param, Const, Op as Operate, Seq, Call, Arg, Ret, Give, Alloc, Fetch, Store, Cond, Switch, Merge, Enter, Leave}
+use Rattle.tam_graph.specs.declared.kind.Kind.TheVariants.{Param, Const, Op as Operate, Seq, Give}
 use Rattle.tam_graph.specs.declared.node.Node.{Node}
 use Rattle.tam_graph.specs.Names.{is_name}
 use Rattle.tam_graph.specs.Texts.{is_named, or_bytes, or_name}
-use Rattle.tam_graph.specs.Reading.{is_named_right}
 use Rattle.tam_form.specs.Form.{gives_value, has_value_at, kind_fits, fit_behind, names_differ}
-use Rattle.tam_form.specs.Text.{name_at, line_of, line_at}
-use Rattle.tam_form.specs.Guess.{number_called, name_of, op_called, named, unnamed, joined, kind_by_number, kind_by_operands, both_called, node_read}
+use Rattle.tam_form.specs.Text.{name_at, line_of}
+use Rattle.tam_form.specs.Guess.{number_called, name_of, named, unnamed, kind_by_operands, both_called, node_read}
 use Rattle.tam_form.proofs.Fitting.{Fits, node-fits, value-at}
 use Rattle.tam_form.proofs.Canonical.{place-text}
 use Rattle.tam_form.proofs.Plain.{is_word, signed-word, name-word, op-word}

@@ -1,10 +1,9 @@
 -- Lists by their places: fronts, maps over the numbers of places, and tests that all pass.
-use Rattle.std.proofs.Common.{◌≡◌, ℕ, zero, suc, ◌+◌, ◌<◌, ◌≤◌, List, [], ◌∷◌, ◌++◌, Bool, true, false, refl, sym, ap, ◌∙◌, arith, take, length, map, filter, flat_map, Some, None, slice_get, append_assoc, inl, inr}
+use Rattle.std.proofs.Common.{◌≡◌, ℕ, zero, suc, ◌+◌, ◌<◌, ◌≤◌, List, [], ◌∷◌, ◌++◌, Bool, true, refl, sym, ap, ◌∙◌, arith, take, length, filter, flat_map, Some, slice_get, inl, inr}
 use Rattle.std.specs.Prelude.{Option, sum_by}
 use Rattle.std.proofs.lemmas.List.Sums.{sum_by-cons, sum_by_push}
 use Rattle.std.proofs.lemmas.Grind.{flat_map-append}
-use Rattle.std.proofs.lemmas.List.{append-nil}
-use Rattle.tam_word.specs.Lists.{below, all_of, any_of}
+use Rattle.tam_word.specs.Lists.{below, all_of}
 use Rattle.tam_word.proofs.Members.{In, in-below, below-in, all-in, in-all, get-in, in-get}
 
 -- the numbers below n are n

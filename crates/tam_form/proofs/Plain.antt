@@ -1,13 +1,13 @@
 -- Names, numbers and the words of the form have no blank and no LF.
-use Rattle.std.proofs.Common.{◌≡◌, ℕ, zero, suc, ◌^◌, ◌-◌, ◌<◌, ◌≤◌, List, [], ◌∷◌, ◌++◌, Bool, true, false, not, refl, sym, ap, ◌∙◌, subst, arith, length, true≢false, ◌==◌, ◌&&◌, ◌||◌, nat_lt, nat_le, tests, cond}
-use Rattle.std.specs.Prelude.{decimal, codes}
+use Rattle.std.proofs.Common.{◌≡◌, ℕ, ◌^◌, ◌-◌, ◌<◌, List, [], ◌∷◌, Bool, true, false, refl, sym, arith, length, true≢false, ◌==◌, ◌&&◌, nat_lt, nat_le, tests, cond}
+use Rattle.std.specs.Prelude.{decimal}
 use Rattle.tam_word.specs.Lists.{all_of}
 use Rattle.tam_word.specs.Words.{signed_text}
 use Rattle.tam_word.specs.Numbers.{digit_of, are_digits, is_decimal}
 use Rattle.tam_word.specs.OpNames.{op_name}
 use Rattle.tam_word.specs.declared.op.Op.{Op}
 use Rattle.tam_word.specs.declared.op.Op.TheVariants.{Add, Sub, Mul, Div, Divu, Rem, Remu, And, Or, Xor, Sll, Srl, Sra, Slt, Sltu, Eq}
-use Rattle.tam_word.proofs.Tests.{both-true, below-test, test-below}
+use Rattle.tam_word.proofs.Tests.{both-true}
 use Rattle.tam_word.proofs.Spelled.{is_decimal-decimal}
 use Rattle.tam_graph.specs.Names.{is_letter, continues_name, is_name}
 

@@ -1,8 +1,8 @@
 -- What a reading answers of a text: the form that it is the text of, and of no text else.
-use Rattle.std.proofs.Common.{◌≡◌, ℕ, ◌<◌, List, [], ◌∷◌, ◌++◌, Bool, true, false, refl, sym, ap, ◌∙◌, subst, arith, length, true≢false, Some, None, drop, nat_lt, ◌&&◌}
+use Rattle.std.proofs.Common.{◌≡◌, ℕ, List, [], ◌∷◌, ◌++◌, true, false, refl, sym, ap, ◌∙◌, subst, arith, length, true≢false, Some, None, drop, nat_lt}
 use Rattle.std.specs.Prelude.{Option}
 use Rattle.tam_word.specs.Lists.{same_bytes}
-use Rattle.tam_word.proofs.Tests.{both-true, true-both}
+use Rattle.tam_word.proofs.Tests.{both-true}
 use Rattle.tam_graph.specs.declared.node.Node.{Node}
 use Rattle.tam_graph.specs.Graphs.{Code, Graph, code_of, graph_of, main_name}
 use Rattle.tam_graph.specs.Texts.{canonical}
@@ -11,7 +11,7 @@ use Rattle.tam_graph.specs.Accepted.{IsAccepted}
 use Rattle.tam_graph.specs.Built.{IsBuilt}
 use Rattle.tam_graph.proofs.SameBytes.{same_self, same_equal}
 use Rattle.tam_form.specs.Form.{fit_behind, names_differ, places_fit, is_form}
-use Rattle.tam_form.specs.Text.{main_code, main_graph, text_of, head_text, end_text, line_at}
+use Rattle.tam_form.specs.Text.{main_code, main_graph, text_of}
 use Rattle.tam_form.specs.Guess.{nodes_read}
 use Rattle.tam_form.proofs.Whole.{IsForm, form-code_of_text, form-of_text, form-built}
 use Rattle.tam_form.proofs.Faultless.{form-accepted}

@@ -1,6 +1,5 @@
 -- Edges that all rise go round no cycle.
-use Rattle.std.proofs.Common.{◌≡◌, ℕ, ◌<◌, ◌≤◌, [], ◌∷◌, Bool, true, false, refl, sym, ap, ◌∙◌, subst, arith, inl, inr, ◌⊎◌, ⊎_elim, true≢false, ◌==◌, ◌&&◌}
-use Rattle.tam_word.specs.Lists.{any_of}
+use Rattle.std.proofs.Common.{◌≡◌, ℕ, ◌<◌, ◌≤◌, [], ◌∷◌, Bool, true, false, refl, arith, inl, inr, ◌⊎◌, ◌==◌, ◌&&◌}
 use Rattle.tam_word.proofs.Tests.{number-eq, both-true}
 use Rattle.tam_word.proofs.Members.{In, any-in}
 use Rattle.tam_graph.specs.Edges.{Edges, reaches, reaches_itself}

@@ -1,9 +1,9 @@
 -- Reading a text line by line.
-use Rattle.std.proofs.Common.{◌≡◌, ℕ, zero, suc, ◌+◌, ◌-◌, ◌<◌, List, [], ◌∷◌, ◌++◌, true, false, refl, sym, ap, ◌∙◌, subst, arith, Some, None, length, map, Bor, cond, not, true≢false, Bool, ◌⊎◌, ⊎_elim}
+use Rattle.std.proofs.Common.{◌≡◌, ℕ, zero, suc, ◌+◌, ◌-◌, ◌<◌, List, [], ◌∷◌, ◌++◌, true, false, refl, sym, ap, ◌∙◌, arith, Some, None, length, map, Bor, cond, not, true≢false, Bool, ◌⊎◌, ⊎_elim}
 use Rattle.std.specs.Prelude.{Option, codes}
 use Rattle.tam_word.specs.Lists.{same_bytes}
 use Rattle.tam_graph.specs.declared.node.Node.{Node}
-use Rattle.tam_form.specs.Guess.{cut, words_of, node_read, behind_node, behind_line, nodes_read}
+use Rattle.tam_form.specs.Guess.{cut, words_of, node_read, behind_line, nodes_read}
 
 -- the first of some lines
 first-line : (lines : ℕ) (nodes : List Node) (text : List ℕ) → 0 < lines → nodes_read lines nodes text ≡ behind_line (nodes_read (lines - 1)) nodes (cut text)

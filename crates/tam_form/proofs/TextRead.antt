@@ -1,16 +1,16 @@
 -- The text of a form reads as its nodes.
-use Rattle.std.proofs.Common.{◌≡◌, ℕ, zero, suc, ◌<◌, ◌≤◌, List, [], ◌∷◌, ◌++◌, Bool, true, false, refl, sym, ap, ◌∙◌, subst, arith, length, true≢false, flat_map, take, drop, slice_get, Some, append_assoc}
-use Rattle.std.specs.Prelude.{Option, codes}
+use Rattle.std.proofs.Common.{◌≡◌, ℕ, zero, suc, ◌<◌, List, [], ◌∷◌, ◌++◌, true, false, refl, sym, ap, ◌∙◌, subst, arith, length, true≢false, flat_map, take, drop, slice_get, Some, append_assoc}
+use Rattle.std.specs.Prelude.{codes}
 use Rattle.std.proofs.lemmas.List.{append-nil}
 use Rattle.tam_word.specs.Lists.{same_bytes, all_of}
 use Rattle.tam_word.proofs.Tests.{test-below}
 use Rattle.tam_graph.specs.declared.kind.Kind.{Kind}
-use Rattle.tam_graph.specs.declared.kind.Kind.TheVariants.{Param, Const, Op as Operate, Seq, Call, Arg, Ret, Give, Alloc, Fetch, Store, Cond, Switch, Merge, Enter, Leave}
+use Rattle.tam_graph.specs.declared.kind.Kind.TheVariants.{Param, Const, Op as Operate, Seq, Give}
 use Rattle.tam_graph.specs.declared.node.Node.{Node}
 use Rattle.tam_graph.specs.Texts.{or_bytes}
 use Rattle.tam_form.specs.Form.{kind_fits}
 use Rattle.tam_form.specs.Text.{line_at, text_of, head_text, end_text}
-use Rattle.tam_form.specs.Guess.{cut, words_of, node_read, behind_node, behind_line, nodes_read}
+use Rattle.tam_form.specs.Guess.{cut, words_of, node_read, behind_line, nodes_read}
 use Rattle.tam_form.proofs.Bytes.{same-differs}
 use Rattle.tam_form.proofs.Whole.{IsForm}
 use Rattle.tam_form.proofs.Fitting.{Fits, node-fits}

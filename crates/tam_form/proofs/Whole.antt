@@ -1,20 +1,18 @@
 -- The graph of nodes that are a form is that of a text, and is built.
-use Rattle.std.proofs.Common.{◌≡◌, ℕ, zero, suc, ◌<◌, ◌≤◌, List, [], ◌∷◌, ◌++◌, Bool, true, false, refl, sym, ap, ◌∙◌, subst, arith, length, map, filter, flat_map, Some, None, true≢false, ◌==◌, nat_lt, nat_le, tests, take}
-use Rattle.std.specs.Prelude.{Option, sum_by}
-use Rattle.std.specs.List.{zip}
-use Rattle.tam_word.specs.Lists.{below, all_of, all_differ, same_bytes}
+use Rattle.std.proofs.Common.{◌≡◌, ℕ, ◌<◌, List, [], ◌∷◌, true, false, refl, sym, ap, ◌∙◌, subst, arith, length, None, true≢false, nat_lt, nat_le, tests, take}
+use Rattle.tam_word.specs.Lists.{all_of}
 use Rattle.tam_word.proofs.Tests.{test-below, below-test}
 use Rattle.tam_graph.specs.declared.kind.Kind.{Kind}
-use Rattle.tam_graph.specs.declared.kind.Kind.TheVariants.{Param, Const, Op as Operate, Seq, Call, Arg, Ret, Give, Alloc, Fetch, Store, Cond, Switch, Merge, Enter, Leave}
+use Rattle.tam_graph.specs.declared.kind.Kind.TheVariants.{Call, Alloc, Fetch}
 use Rattle.tam_graph.specs.declared.node.Node.{Node}
-use Rattle.tam_graph.specs.Graphs.{Code, Graph, code_of, kind_at, block_at, depth_at, nodes_in, node_numbers, blocks_of, is_split}
-use Rattle.tam_graph.specs.Written.{IsWritten, is_line, vertices_at, number_of_vertices, greatest_depth}
+use Rattle.tam_graph.specs.Graphs.{Code, code_of, kind_at, nodes_in, node_numbers, is_split}
+use Rattle.tam_graph.specs.Written.{IsWritten, vertices_at, number_of_vertices, greatest_depth}
 use Rattle.tam_graph.specs.Reading.{is_named_right, IsCodeOfText, IsOfText}
-use Rattle.tam_graph.specs.Built.{IsBuilt, is_built_kind, names_earlier}
+use Rattle.tam_graph.specs.Built.{IsBuilt}
 use Rattle.tam_form.specs.Form.{fit_behind, names_differ, places_fit}
 use Rattle.tam_form.specs.Text.{main_code, main_graph}
 use Rattle.tam_form.proofs.Places.{sum-ones, length-below, at-all, all-below}
-use Rattle.tam_form.proofs.Fitting.{Fits, node-fits}
+use Rattle.tam_form.proofs.Fitting.{node-fits}
 use Rattle.tam_form.proofs.Facts.{is_plain, fits-built, blocks-zero, depths-zero, kinds-plain, kind-fits-at, line-right, names-before}
 use Rattle.tam_form.proofs.Flat.{file-order, opening-order, all-in-body}
 

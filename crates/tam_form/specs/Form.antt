@@ -1,6 +1,6 @@
 -- Which nodes are those of a graph that is built: tests of each node against the nodes before it, of the names, and of the places.
 -- The rule in words: docs/FORMATS.md, "What is built".
-use Rattle.std.specs.Prelude.{ℕ, ◌^◌, Bool, true, false, ◌&&◌, not, ◌==◌, nat_lt, List, [], ◌∷◌, ◌++◌, Option, Some, None, map, slice_get, length, count_by}
+use Rattle.std.specs.Prelude.{ℕ, ◌^◌, Bool, true, false, ◌&&◌, not, ◌==◌, nat_lt, List, [], ◌∷◌, ◌++◌, Option, Some, None, map, slice_get, length}
 use Rattle.tam_word.specs.Lists.{any_of, all_of, all_differ, same_bytes}
 use Rattle.tam_graph.specs.declared.kind.Kind.{Kind}
 use Rattle.tam_graph.specs.declared.kind.Kind.TheVariants.{Param, Const, Op as Operate, Seq, Give}

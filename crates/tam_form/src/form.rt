@@ -69,7 +69,11 @@ fn is_named(kind: Kind) -> bool
 {
     !matches!(
         kind,
-        Kind::Arg { .. } | Kind::Give { .. } | Kind::Store { .. } | Kind::Switch { .. } | Kind::Leave { .. }
+        Kind::Arg { .. }
+            | Kind::Give { .. }
+            | Kind::Store { .. }
+            | Kind::Switch { .. }
+            | Kind::Leave { .. }
     )
 }
 

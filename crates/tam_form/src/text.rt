@@ -10,6 +10,9 @@ use tam_word::{op_name, print_word};
 
 const HEAD: &[u8] = b"dg 1\ncode main\n";
 
+/// How many bytes stand before the first node's line.
+pub const HEAD_LEN: usize = HEAD.len();
+
 // Adds a word in signed decimal.
 fn push_word(text: &mut Vec<u8>, word: u32) -> Result<(), AllocError>
     ensures ok { OnOk result (text.new.items ≡ text.old.items ++ signed_text word) }

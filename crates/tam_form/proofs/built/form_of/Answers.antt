@@ -12,10 +12,11 @@ returns-then-not-is_form-clause-only c = λ nodes form same.
     (ap is_form (sym c.deref.ensures.value) ∙ sym c.if-not-is_form.ensures.value)
 
 pub returns-then-is_same-clause-found : goal.returns-then-is_same-clause-found
-returns-then-is_same-clause-found c =
-    (ap is_form (sym c.deref.ensures.value) ∙ sym c.if-not-is_form.ensures.value,
-    text-found c.in-Some.nodes.items c.deref-2.result.now c.in-Ok.again.items c.deref-3.result.now c.args.text.now c.in-Ok.ensures.ok c.deref-2.ensures.value
-    c.deref-3.ensures.value c.if-is_same.ensures.value)
+returns-then-is_same-clause-found c = (
+  ap is_form (sym c.deref.ensures.value) ∙ sym c.if-not-is_form.ensures.value,
+  text-found c.in-Some.nodes.items c.deref-2.result.now c.in-Ok.again.items c.deref-3.result.now c.args.text.now c.in-Ok.ensures.ok c.deref-2.ensures.value
+      c.deref-3.ensures.value c.if-is_same.ensures.value,
+)
 
 pub returns-clause-only : goal.returns-clause-only
 returns-clause-only c = λ nodes form same.

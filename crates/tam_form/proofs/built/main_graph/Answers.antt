@@ -8,7 +8,7 @@ pub of-requires : goal.of-requires
 of-requires c = record {
   of_text =
       graph-made c.args.nodes.items c.push.new.self.items c.requires
-      (one-behind c.new-codes.result.items c.push.new.self.items _ (main_code c.args.nodes.items) c.in_ok-push.ensures.items c.new-codes.ensures.items c.in_ok-main_code.ensures.code)
+      (one-behind c.new-codes.result.items c.push.new.self.items _ (main_code c.args.nodes.items) c.in_ok-push.ensures.items c.new-codes.ensures.items c.in_ok-main_code.ensures.code);
 }
 
 pub of-requires-2 : goal.of-requires-2

@@ -1,7 +1,5 @@
-use Rattle.std.proofs.Common.{◌≡◌, ◌-◌, ◌∙◌, false, sym, ap, arith, Some, ◌<◌, length, length-append}
+use Rattle.std.proofs.Common.{◌-◌, ◌∙◌, sym, ap, arith, length, length-append}
 use Rattle.tam_graph.specs.declared.node.Node.{Node}
-use Rattle.tam_word.specs.Lists.{same_bytes}
-use Rattle.tam_form.specs.Guess.{cut, words_of, node_read, nodes_read}
 use Rattle.tam_form.proofs.Steps.{line-missing, line-end, node-missing, node-behind, no-lines, lent-read, pushed}
 use Rattle.tam_form.proofs.guess.nodes_read.Goals as goal
 
@@ -12,7 +10,7 @@ pub returns-then-is_same : goal.returns-then-is_same
 returns-then-is_same c = record {
   value =
       line-end 129 c.lines._line c.lines.nodes.items c.lines.rest.now _ (omega arith) c.lines.invariant.so_far c.in-Some.line.now c.in-Some.after.now c.in-Some.ensures.value
-      (sym c.if-is_same.ensures.value)
+      (sym c.if-is_same.ensures.value);
 }
 
 pub returns-in_default-node_read : goal.returns-in_default-node_read
@@ -20,7 +18,7 @@ returns-in_default-node_read c = record {
   value =
       node-missing 129 c.lines._line c.lines.nodes.items c.lines.rest.now _ (omega arith) c.lines.invariant.so_far c.in-Some.line.now c.in-Some.after.now c.in-Some.ensures.value
       (sym c.if-is_same.ensures.value)
-      (lent-read c.lines.nodes.items c.deref.result.now c.deref-in-lines.result.now c.in_ok-words.words.items c.in-Some.line.now _ c.in_default-node_read.ensures.value c.deref.ensures.value c.deref-in-lines.ensures.value c.in_ok-words.ensures.value)
+      (lent-read c.lines.nodes.items c.deref.result.now c.deref-in-lines.result.now c.in_ok-words.words.items c.in-Some.line.now _ c.in_default-node_read.ensures.value c.deref.ensures.value c.deref-in-lines.ensures.value c.in_ok-words.ensures.value);
 }
 
 pub lines-preserved : goal.lines-preserved

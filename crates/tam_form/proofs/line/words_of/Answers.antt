@@ -8,5 +8,5 @@ returns-in-Ok c = record {
   value =
       let collected = map_from_collect _ c.collect.ensures.ran
       (YieldsList-from_slice_split _ (λ b. b == 32) c.args.line.now c.split.ensures.rest c.split.ensures.done c.split.ensures.closure (λ x r q k. search (rules, tests))) in
-      rw c.in-Ok.is at collected
+      rw c.in-Ok.is at collected;
 }

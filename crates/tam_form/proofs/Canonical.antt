@@ -1,5 +1,6 @@
 -- The canonical text of the graph of nodes that are a form, written out.
-use Rattle.std.proofs.Common.{◌≡◌, ℕ, ◌^◌, ◌<◌, List, [], ◌∷◌, ◌++◌, true, false, refl, sym, ap, ◌∙◌, arith, length, map, flat_map, Some, true≢false, nat_lt, take, slice_get, append_assoc, inl, inr}
+use Rattle.std.proofs.Common.{◌≡◌, ℕ, ◌^◌, ◌<◌, List, [], ◌∷◌, ◌++◌, true, false, refl, sym, ap, ◌∙◌, arith, length, map, flat_map, Some, true≢false, nat_lt}
+use Rattle.std.proofs.Common.{take, slice_get, append_assoc, inl, inr}
 use Rattle.std.specs.Prelude.{Option, decimal, codes}
 use Rattle.std.proofs.Math.Seq.{take-length}
 use Rattle.std.proofs.lemmas.List.{append-nil}
@@ -59,7 +60,8 @@ line_tokens nodes o = elim (is_named (or_kind o)) [
 module _ (nodes : List Node) where
   -- the text of the line of each kind
   kind-line : (earlier : List Node) (name : List ℕ) (k : Kind) → kind_fits earlier k ≡ true
-      → line_text (elim (is_named k) [ true ↦ Bytes (name ++ []) ∷ Bytes (codes "=") ∷ tokens (main_graph nodes) (main_code nodes) k | false ↦ tokens (main_graph nodes) (main_code nodes) k ]) ≡ line_of nodes name k
+      → line_text (elim (is_named k) [ true ↦ Bytes (name
+          ++ []) ∷ Bytes (codes "=") ∷ tokens (main_graph nodes) (main_code nodes) k | false ↦ tokens (main_graph nodes) (main_code nodes) k ]) ≡ line_of nodes name k
   kind-line earlier name (Param k) h =
       ap (λ t. line_text (Bytes (name ++ []) ∷ Bytes (codes "=") ∷ Bytes (codes "param") ∷ Bytes t ∷ [])) (place-text k h)
       ∙ (rw append-nil (sym (four name (codes " = param ") (signed_text k) (codes "\n"))))

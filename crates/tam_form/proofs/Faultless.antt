@@ -1,5 +1,6 @@
 -- The graph of nodes that are a form has no fault.
-use Rattle.std.proofs.Common.{◌≡◌, ℕ, ◌<◌, List, [], ◌∷◌, ◌++◌, Bool, true, false, not, refl, sym, ap, ◌∙◌, subst, arith, length, map, flat_map, Some, true≢false, ◌==◌, nat_lt, take, slice_get, cond}
+use Rattle.std.proofs.Common.{◌≡◌, ℕ, ◌<◌, List, [], ◌∷◌, ◌++◌, Bool, true, false, not, refl, sym, ap, ◌∙◌, subst, arith, length, map, flat_map, Some}
+use Rattle.std.proofs.Common.{true≢false, ◌==◌, nat_lt, take, slice_get, cond}
 use Rattle.std.specs.Prelude.{sum_by}
 use Rattle.std.proofs.Math.Seq.{take-length}
 use Rattle.tam_word.specs.Lists.{below, any_of, first_of, has, beyond, where_so}
@@ -8,11 +9,18 @@ use Rattle.tam_word.proofs.Members.{In, in-flat_map, in-map, in-filter, in-below
 use Rattle.tam_graph.specs.declared.kind.Kind.{Kind}
 use Rattle.tam_graph.specs.declared.kind.Kind.TheVariants.{Param, Const, Op as Operate, Seq, Call, Give, Alloc, Fetch}
 use Rattle.tam_graph.specs.declared.node.Node.{Node}
-use Rattle.tam_graph.specs.Graphs.{Code, Graph, code_of, or_kind, kind_at, block_at, depth_at, nodes_in, node_numbers, is_split, operands_of, is_any_param, is_any_give, number_of}
+use Rattle.tam_graph.specs.Graphs.{Code, Graph, code_of, or_kind, kind_at, block_at, depth_at, nodes_in, node_numbers, is_split, operands_of, is_any_param}
+use Rattle.tam_graph.specs.Graphs.{is_any_give, number_of}
 use Rattle.tam_graph.specs.Edges.{reaches_itself}
 use Rattle.tam_graph.specs.Written.{named_by, IsWritten}
 use Rattle.tam_graph.specs.Built.{is_built_kind}
-use Rattle.tam_graph.specs.Accepted.{Cause, Wrong_block, Place_twice, Place_range, Place_missing, Depth_mismatch, Main_type, Cycle, in_wrong_block, is_wrong_block, same_place, is_place_twice, is_place_range, is_place_missing, has_right_depth, is_main_type, edges_to, value_edges, is_cycle, faults_at, IsAccepted}
+use Rattle.tam_graph.specs.Accepted.{in_wrong_block}
+use Rattle.tam_graph.specs.declared.check_cause.CheckCause.{CheckCause as Cause}
+use Rattle.tam_graph.specs.declared.check_cause.CheckCause.TheVariants.{WrongBlock as Wrong_block, PlaceTwice as Place_twice, PlaceRange as Place_range}
+use Rattle.tam_graph.specs.declared.check_cause.CheckCause.TheVariants.{PlaceMissing as Place_missing, DepthMismatch as Depth_mismatch, MainType as Main_type}
+use Rattle.tam_graph.specs.declared.check_cause.CheckCause.TheVariants.{Cycle}
+use Rattle.tam_graph.specs.Accepted.{is_wrong_block, same_place, is_place_twice, is_place_range, is_place_missing, has_right_depth, is_main_type, edges_to}
+use Rattle.tam_graph.specs.Accepted.{value_edges, is_cycle, faults_at, IsAccepted}
 use Rattle.tam_graph.specs.NodeLists.{number_where}
 use Rattle.tam_form.specs.Form.{same_interface, place_fits}
 use Rattle.tam_form.specs.Text.{main_code, main_graph}
@@ -95,8 +103,10 @@ number-among nodes test =
     ∙ ap (sum_by (λ n. cond (test n.kind) 1 0)) (take-length nodes)
 
 -- where each is in order, there is no fault
-none : (wrong twice beyond missing right main cycle : Bool) → wrong ≡ false → twice ≡ false → beyond ≡ false → missing ≡ false → right ≡ true → main ≡ false → cycle ≡ false
-    → where_so wrong Wrong_block ++ (where_so twice Place_twice ++ (where_so beyond Place_range ++ (where_so missing Place_missing ++ (where_so (not right) Depth_mismatch
+none : (wrong twice beyond missing right main cycle : Bool) → wrong ≡ false → twice ≡ false → beyond ≡ false → missing ≡ false → right ≡ true
+    → main ≡ false → cycle ≡ false
+    → where_so wrong Wrong_block
+        ++ (where_so twice Place_twice ++ (where_so beyond Place_range ++ (where_so missing Place_missing ++ (where_so (not right) Depth_mismatch
     ++ (where_so main Main_type ++ where_so cycle Cycle))))) ≡ []
 none wrong twice beyond missing right main cycle a b c d e f g = rw (a, b, c, d, e, f, g) refl
 
@@ -111,7 +121,8 @@ module _ (nodes : List Node) (form : IsForm nodes) where
   another x y l below_x h =
       let m = there nodes y (omega arith) in
       let n = there nodes x l in
-      let same : same_place true (or_kind (slice_get nodes y)) (or_kind (slice_get nodes x)) ≡ true = rw (blocks-zero nodes form.fit y, blocks-zero nodes form.fit x) at h in
+      let same : same_place true (or_kind (slice_get nodes y)) (or_kind (slice_get nodes x)) ≡ true = rw (blocks-zero nodes form.fit y,
+          blocks-zero nodes form.fit x) at h in
       let built : is_built_kind n.0.kind ≡ true = subst (λ k. is_built_kind k ≡ true) (ap or_kind n.1) (built-at x l) in
       let here : same_interface m.0.kind n.0.kind ≡ true = sym (same-interface m.0.kind n.0.kind built) ∙ (rw (m.1, n.1) at same) in
       let among : In m.0 (take x nodes) = get-in (take x nodes) y m.0 (take-get x nodes y below_x ∙ m.1) in
@@ -132,7 +143,8 @@ module _ (nodes : List Node) (form : IsForm nodes) where
   within k n m e h = rw (beyond, e, h) refl
 
   -- each place is in range
-  no-beyond : (x : ℕ) (n : Node) (k : Kind) → slice_get nodes x ≡ Some n → n.kind ≡ k → is_built_kind k ≡ true → is_place_range (main_graph nodes) (main_code nodes) x k ≡ false
+  no-beyond : (x : ℕ) (n : Node) (k : Kind) → slice_get nodes x ≡ Some n → n.kind ≡ k → is_built_kind k ≡ true
+      → is_place_range (main_graph nodes) (main_code nodes) x k ≡ false
   no-beyond x n (Param k) s e h =
       within k _ (number_where is_any_param nodes) (number-among nodes is_any_param) (rw e at (all-at (λ n. place_fits (number_where is_any_param nodes) (number_where is_any_give nodes) n.kind) nodes form.places x n s))
   no-beyond x n (Give k a) s e h =
@@ -179,7 +191,8 @@ module _ (nodes : List Node) (form : IsForm nodes) where
     has_main = refl;
     few_codes = refl;
     written = λ n t. only-code n (test-below n 1 t);
-    no_fault = flat-none (λ n. flat_map (λ x. map (λ f. (n, x, f)) (faults_at (main_graph nodes) n x)) (node_numbers (code_of (main_graph nodes) n))) (below 1) (λ n i. only-faults n (in-below n 1 i));
+    no_fault = flat-none (λ n. flat_map (λ x. map (λ f. (n, x,
+        f)) (faults_at (main_graph nodes) n x)) (node_numbers (code_of (main_graph nodes) n))) (below 1) (λ n i. only-faults n (in-below n 1 i));
   }
     where
       first : (n : ℕ) → n < 1 → 0 ≡ n
@@ -192,6 +205,9 @@ module _ (nodes : List Node) (form : IsForm nodes) where
       in-main = flat-none (λ x. map (λ (f : Cause). let r : ℕ × ℕ × Cause = (0, x, f) in r) (faults_at (main_graph nodes) 0 x)) (below (length nodes))
           (λ x i. ap (map (λ (f : Cause). let r : ℕ × ℕ × Cause = (0, x, f) in r)) (no-fault x (in-below x (length nodes) i)))
 
-      only-faults : (n : ℕ) → n < 1 → flat_map (λ x. map (λ (f : Cause). let r : ℕ × ℕ × Cause = (n, x, f) in r) (faults_at (main_graph nodes) n x)) (node_numbers (code_of (main_graph nodes) n)) ≡ []
+      only-faults : (n : ℕ) → n < 1
+          → flat_map (λ x. map (λ (f : Cause). let r : ℕ × ℕ
+          × Cause = (n, x, f) in r) (faults_at (main_graph nodes) n x)) (node_numbers (code_of (main_graph nodes) n)) ≡ []
       only-faults n l =
-          subst (λ k. flat_map (λ x. map (λ (f : Cause). let r : ℕ × ℕ × Cause = (k, x, f) in r) (faults_at (main_graph nodes) k x)) (node_numbers (code_of (main_graph nodes) k)) ≡ []) (first n l) in-main
+          subst (λ k. flat_map (λ x. map (λ (f : Cause). let r : ℕ × ℕ
+              × Cause = (k, x, f) in r) (faults_at (main_graph nodes) k x)) (node_numbers (code_of (main_graph nodes) k)) ≡ []) (first n l) in-main

@@ -1,5 +1,6 @@
 -- A graph that is accepted and built is that of its nodes, and they are a form.
-use Rattle.std.proofs.Common.{◌≡◌, ℕ, zero, suc, ◌<◌, ◌≤◌, List, [], ◌∷◌, Bool, true, false, not, refl, sym, ap, ◌∙◌, subst, arith, length, Some, None, true≢false, ◌==◌, ◌&&◌, nat_lt, nat_le, tests, take, slice_get, inl, inr, ◌⊎◌}
+use Rattle.std.proofs.Common.{◌≡◌, ℕ, zero, suc, ◌<◌, ◌≤◌, List, [], ◌∷◌, Bool, true, false, not, refl, sym, ap, ◌∙◌, subst, arith, length, Some, None}
+use Rattle.std.proofs.Common.{true≢false, ◌==◌, ◌&&◌, nat_lt, nat_le, tests, take, slice_get, inl, inr, ◌⊎◌}
 use Rattle.std.specs.Prelude.{Option}
 use Rattle.std.specs.List.{zip}
 use Rattle.std.proofs.lemmas.Option.{slice_get_within}
@@ -11,11 +12,13 @@ use Rattle.tam_word.proofs.Members.{In, in-filter, below-in, in-any, any-in, all
 use Rattle.tam_graph.specs.declared.kind.Kind.{Kind}
 use Rattle.tam_graph.specs.declared.kind.Kind.TheVariants.{Param, Const, Op as Operate, Seq, Give}
 use Rattle.tam_graph.specs.declared.node.Node.{Node}
-use Rattle.tam_graph.specs.Graphs.{Code, Graph, code_of, main_among, main_name, or_kind, kind_at, block_at, or_block, depth_at, or_depth, nodes_in, node_numbers, is_any_param, is_any_give, has_value}
+use Rattle.tam_graph.specs.Graphs.{Code, Graph, code_of, main_among, main_name, or_kind, kind_at, block_at, or_block, depth_at, or_depth, nodes_in}
+use Rattle.tam_graph.specs.Graphs.{node_numbers, is_any_param, is_any_give, has_value}
 use Rattle.tam_graph.specs.Written.{IsWritten, is_operand, named_by, number_of_vertices, greatest_depth}
 use Rattle.tam_graph.specs.Reading.{is_named_right, IsCodeOfText, IsOfText}
 use Rattle.tam_graph.specs.Built.{IsBuilt, is_built_kind, names_earlier}
-use Rattle.tam_graph.specs.Accepted.{Wrong_block, Place_twice, Place_range, same_place, is_wrong_block, is_place_twice, is_place_range, IsAccepted}
+use Rattle.tam_graph.specs.Accepted.{same_place, is_wrong_block, is_place_twice, is_place_range, IsAccepted}
+use Rattle.tam_graph.specs.declared.check_cause.CheckCause.TheVariants.{WrongBlock as Wrong_block, PlaceTwice as Place_twice, PlaceRange as Place_range}
 use Rattle.tam_graph.proofs.AcceptedFacts.{right-depth, right-main, right-line}
 use Rattle.tam_graph.proofs.Uncycled.{no-fault}
 use Rattle.tam_graph.specs.NodeLists.{number_where}
@@ -70,7 +73,8 @@ module _ (g : Graph) (text : IsOfText g) (accepted : IsAccepted g) (built : IsBu
 
   -- its code has one block
   owners-one : (code_of g 0).owners ≡ None ∷ []
-  owners-one = one-owner (code_of g 0).owners (sym (ap (λ l. let r : List (ℕ × Option ℕ) = (0, None) ∷ l in r) (opening-order (code_of g 0) plain (length (code_of g 0).owners) 0)) ∙ written.blocks_in_order)
+  owners-one = one-owner (code_of g 0).owners (sym (ap (λ l. let r : List (ℕ
+      × Option ℕ) = (0, None) ∷ l in r) (opening-order (code_of g 0) plain (length (code_of g 0).owners) 0)) ∙ written.blocks_in_order)
 
   -- it has one code
   codes-one : g.codes ≡ code_of g 0 ∷ []
@@ -101,7 +105,8 @@ module _ (g : Graph) (text : IsOfText g) (accepted : IsAccepted g) (built : IsBu
   graph-nodes =
       ap (λ cs. let r : Graph = record { codes = cs; main = g.main } in r) codes-one
       ∙ ap (λ m. let r : Graph = record { codes = code_of g 0 ∷ []; main = m } in r) main-zero
-      ∙ ap (λ n. let r : Graph = record { codes = record { name = n; nodes = (code_of g 0).nodes; owners = (code_of g 0).owners } ∷ []; main = 0 } in r) named-main
+      ∙ ap (λ n. let r : Graph = record { codes = record { name = n; nodes = (code_of g 0).nodes; owners = (code_of g 0).owners } ∷ [];
+          main = 0 } in r) named-main
       ∙ ap (λ os. let r : Graph = record { codes = record { name = main_name; nodes = (code_of g 0).nodes; owners = os } ∷ []; main = 0 } in r) owners-one
 
 -- ---- the nodes are a form
@@ -153,11 +158,13 @@ module _ (nodes : List Node) (text : IsOfText (main_graph nodes)) (accepted : Is
   earlier-at x l = below-all (names_earlier (main_code nodes)) (length nodes) built.operands x l
 
   -- of each kind, the depth is 0 where it is before
-  depth-of : (x : ℕ) (k : Kind) → x < length nodes → kind_at (main_code nodes) x ≡ k → is_built_kind k ≡ true → ((a : ℕ) → a < x → depth_at (main_code nodes) a ≡ 0) → depth_at (main_code nodes) x ≡ 0
+  depth-of : (x : ℕ) (k : Kind) → x < length nodes → kind_at (main_code nodes) x ≡ k → is_built_kind k ≡ true
+      → ((a : ℕ) → a < x → depth_at (main_code nodes) a ≡ 0) → depth_at (main_code nodes) x ≡ 0
   depth-of x (Param k) l e h i = number-eq _ 0 (not-false (depth_at (main_code nodes) x == 0) (rw e at (right-main (main_graph nodes) accepted 0 in-one x l refl)))
   depth-of x (Const w) l e h i = number-eq _ 0 (rw e at (right-depth (main_graph nodes) accepted 0 in-one x l))
   depth-of x (Operate o a b) l e h i = number-eq _ 0 (both-true (depth_at (main_code nodes) x == 0) _ (rw e at (right-depth (main_graph nodes) accepted 0 in-one x l))).0
-  depth-of x (Seq a b) l e h i = number-eq _ _ (rw e at (right-depth (main_graph nodes) accepted 0 in-one x l)) ∙ i a (test-below a x (both-named a b x (rw e at (earlier-at x l))).0)
+  depth-of x (Seq a b) l e h i = number-eq _ _ (rw e at (right-depth (main_graph nodes) accepted 0 in-one x l))
+      ∙ i a (test-below a x (both-named a b x (rw e at (earlier-at x l))).0)
   depth-of x (Give k a) l e h i = not-above (depth_at (main_code nodes) x) (rw (greatest-give (main_code nodes) x k a l e) at (below-all (λ x. nat_le (depth_at (main_code nodes) x) (greatest_depth (main_code nodes) x)) (length nodes) of-text.written.depths x l))
   depth-of x k l e h i = absurd (true≢false (sym h))
 
@@ -246,7 +253,8 @@ module _ (nodes : List Node) (text : IsOfText (main_graph nodes)) (accepted : Is
       go false p = absurd (true≢false (rw (beyond, p) at h))
 
   -- its place is in range
-  place-within : (x : ℕ) (k : Kind) → is_place_range (main_graph nodes) (main_code nodes) x k ≡ false → place_fits (number_where is_any_param nodes) (number_where is_any_give nodes) k ≡ true
+  place-within : (x : ℕ) (k : Kind) → is_place_range (main_graph nodes) (main_code nodes) x k ≡ false
+      → place_fits (number_where is_any_param nodes) (number_where is_any_give nodes) k ≡ true
   place-within x (Param k) h = within k _ (number_where is_any_param nodes) (number-among nodes is_any_param) h
   place-within x (Give k a) h = within k _ (number_where is_any_give nodes) (number-among nodes is_any_give) h
   place-within x k h = refl

@@ -1,5 +1,6 @@
 -- The line of a node of a form reads as that node.
-use Rattle.std.proofs.Common.{◌≡◌, ℕ, ◌^◌, ◌<◌, List, [], ◌∷◌, ◌++◌, Bool, true, false, refl, sym, ap, ◌∙◌, subst, arith, true≢false, nat_lt, take, slice_get, Some, None, append_assoc}
+use Rattle.std.proofs.Common.{◌≡◌, ℕ, ◌^◌, ◌<◌, List, [], ◌∷◌, ◌++◌, Bool, true, false, refl, sym, ap, ◌∙◌, subst, arith, true≢false, nat_lt, take, slice_get}
+use Rattle.std.proofs.Common.{Some, None, append_assoc}
 use Rattle.std.specs.Prelude.{Option, codes}
 use Rattle.tam_word.specs.Lists.{all_of, same_bytes}
 use Rattle.tam_word.specs.Words.{signed_text}
@@ -113,13 +114,15 @@ node_of name depth block kind = record { name = name; depth = depth; block = blo
 
 module _ (nodes : List Node) (fit : fit_behind [] nodes ≡ true) (differ : names_differ nodes ≡ true) where
   -- an operand is found by its name
-  operand-read : (x a : ℕ) → has_value_at (take x nodes) a ≡ true → (number_called 0 (name_at nodes a) (take x nodes) ≡ Some a) × (is_name (name_at nodes a) ≡ true)
+  operand-read : (x a : ℕ) → has_value_at (take x nodes) a ≡ true
+      → (number_called 0 (name_at nodes a) (take x nodes) ≡ Some a) × (is_name (name_at nodes a) ≡ true)
   operand-read x a h =
       let v = value-at nodes x a h in
       let f = node-fits nodes fit a v.0 v.1 in
       let own = name-there v.0 (named-kind (take a nodes) v.0.kind f.kind v.3) f.named in
       let here : or_bytes v.0.name ≡ name_at nodes a = ap or_name (sym v.1) in
-      (subst (λ bs. number_called 0 bs (take x nodes) ≡ Some a) here (called-among nodes x a v.0 differ v.2 v.1 own.0), subst (λ bs. is_name bs ≡ true) here own.1)
+      (subst (λ bs. number_called 0 bs (take x nodes) ≡ Some a) here (called-among nodes x a v.0 differ v.2 v.1 own.0),
+          subst (λ bs. is_name bs ≡ true) here own.1)
 
   -- so are two
   both-read : (x a b : ℕ) → has_value_at (take x nodes) a ≡ true → has_value_at (take x nodes) b ≡ true
@@ -141,12 +144,14 @@ module _ (nodes : List Node) (fit : fit_behind [] nodes ≡ true) (differ : name
   kind-read x bs k h n r = absurd (true≢false (sym h))
 
   -- the words of a result
-  give-read : (x k a : ℕ) → kind_fits (take x nodes) (Give k a) ≡ true → node_read (take x nodes) (codes "result" ∷ signed_text k ∷ name_at nodes a ∷ []) ≡ Some (unnamed (Give k a))
+  give-read : (x k a : ℕ) → kind_fits (take x nodes) (Give k a) ≡ true
+      → node_read (take x nodes) (codes "result" ∷ signed_text k ∷ name_at nodes a ∷ []) ≡ Some (unnamed (Give k a))
   give-read x k a h =
       let v = both-true (has_value_at (take x nodes) a) (nat_lt k 64) h in rw (place-again k v.1, (operand-read x a v.0).0) refl
 
   -- they read as the node
-  pub node-again : (x : ℕ) (n : Node) → slice_get nodes x ≡ Some n → node_read (take x nodes) (first_word (or_bytes n.name) n.kind ∷ rest_words nodes n.kind) ≡ Some n
+  pub node-again : (x : ℕ) (n : Node) → slice_get nodes x ≡ Some n
+      → node_read (take x nodes) (first_word (or_bytes n.name) n.kind ∷ rest_words nodes n.kind) ≡ Some n
   node-again x n e = go (is_named n.kind) refl
     where
       f : Fits (take x nodes) n
@@ -167,7 +172,8 @@ module _ (nodes : List Node) (fit : fit_behind [] nodes ≡ true) (differ : name
           (give-read x g.0 g.1 (subst (λ k. kind_fits (take x nodes) k ≡ true) g.2 f.kind) ∙ of-parts (Give g.0 g.1) None g.2 (name-absent n h f.named))
 
   -- none of them has a blank
-  kind-plain : (x : ℕ) (bs : List ℕ) (k : Kind) → kind_fits (take x nodes) k ≡ true → (is_named k ≡ true → is_word bs ≡ true) → all_of is_word (first_word bs k ∷ rest_words nodes k) ≡ true
+  kind-plain : (x : ℕ) (bs : List ℕ) (k : Kind) → kind_fits (take x nodes) k ≡ true → (is_named k ≡ true → is_word bs ≡ true)
+      → all_of is_word (first_word bs k ∷ rest_words nodes k) ≡ true
   kind-plain x bs (Param k) h p = rw (all_of, p refl, signed-word k (let l : k < 64 = test-below k 64 h in omega arith)) refl
   kind-plain x bs (Const w) h p = rw (all_of, p refl, signed-word w (test-below w (2 ^ 32) h)) refl
   kind-plain x bs (Operate o a b) h p =

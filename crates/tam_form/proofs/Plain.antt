@@ -1,5 +1,6 @@
 -- Names, numbers and the words of the form have no blank and no LF.
-use Rattle.std.proofs.Common.{◌≡◌, ℕ, ◌^◌, ◌-◌, ◌<◌, List, [], ◌∷◌, Bool, true, false, refl, sym, arith, length, true≢false, ◌==◌, ◌&&◌, nat_lt, nat_le, tests, cond}
+use Rattle.std.proofs.Common.{◌≡◌, ℕ, ◌^◌, ◌-◌, ◌<◌, List, [], ◌∷◌, Bool, true, false, refl, sym, arith, length, true≢false, ◌==◌, ◌&&◌, nat_lt, nat_le}
+use Rattle.std.proofs.Common.{tests, cond}
 use Rattle.std.specs.Prelude.{decimal}
 use Rattle.tam_word.specs.Lists.{all_of}
 use Rattle.tam_word.specs.Words.{signed_text}
@@ -19,7 +20,8 @@ is_word bytes = all_of (λ b. nat_lt 32 b) bytes
 digit-above : (b : ℕ) → nat_lt (digit_of b) 10 ≡ true → nat_lt 32 b ≡ true
 digit-above b h = go (nat_le 48 b && nat_le b 57) refl (nat_le 65 b && nat_le b 70) refl (nat_le 97 b && nat_le b 102) refl
   where
-    go : (t : Bool) → (nat_le 48 b && nat_le b 57) ≡ t → (u : Bool) → (nat_le 65 b && nat_le b 70) ≡ u → (v : Bool) → (nat_le 97 b && nat_le b 102) ≡ v → nat_lt 32 b ≡ true
+    go : (t : Bool) → (nat_le 48 b && nat_le b 57) ≡ t → (u : Bool) → (nat_le 65 b && nat_le b 70) ≡ u → (v : Bool) → (nat_le 97 b && nat_le b 102) ≡ v
+        → nat_lt 32 b ≡ true
     go true e u f v g = let low : nat_le 48 b ≡ true = (both-true (nat_le 48 b) (nat_le b 57) e).0 in grind (arith, tests)
     go false e true f v g = let low : nat_le 65 b ≡ true = (both-true (nat_le 65 b) (nat_le b 70) f).0 in grind (arith, tests)
     go false e false f true g = let low : nat_le 97 b ≡ true = (both-true (nat_le 97 b) (nat_le b 102) g).0 in grind (arith, tests)

@@ -1,5 +1,6 @@
 -- The text of a form reads as its nodes.
-use Rattle.std.proofs.Common.{◌≡◌, ℕ, zero, suc, ◌<◌, List, [], ◌∷◌, ◌++◌, true, false, refl, sym, ap, ◌∙◌, subst, arith, length, true≢false, flat_map, take, drop, slice_get, Some, append_assoc}
+use Rattle.std.proofs.Common.{◌≡◌, ℕ, zero, suc, ◌<◌, List, [], ◌∷◌, ◌++◌, true, false, refl, sym, ap, ◌∙◌, subst, arith, length, true≢false, flat_map, take}
+use Rattle.std.proofs.Common.{drop, slice_get, Some, append_assoc}
 use Rattle.std.specs.Prelude.{codes}
 use Rattle.std.proofs.lemmas.List.{append-nil}
 use Rattle.tam_word.specs.Lists.{same_bytes, all_of}
@@ -61,7 +62,8 @@ module _ (nodes : List Node) (form : IsForm nodes) where
     words = words-spaced (first_word (or_bytes n.name) n.kind) (rest_words nodes n.kind) plain
 
     not-end : same_bytes (spaced (first_word (or_bytes n.name) n.kind) (rest_words nodes n.kind)) (codes "end") ≡ false
-    not-end = same-differs (spaced (first_word (or_bytes n.name) n.kind) (rest_words nodes n.kind)) (codes "end") (λ e. let one = sym words ∙ ap words_of e in rest-some nodes earlier n.kind fits-here.kind (second-none _ _ one))
+    not-end = same-differs (spaced (first_word (or_bytes n.name) n.kind) (rest_words nodes n.kind)) (codes "end") (λ e. let one = sym words
+        ∙ ap words_of e in rest-some nodes earlier n.kind fits-here.kind (second-none _ _ one))
 
     cut-line : (after : List ℕ) → cut (line_at nodes n ++ after) ≡ Some (spaced (first_word (or_bytes n.name) n.kind) (rest_words nodes n.kind), after)
     cut-line after =

@@ -11,7 +11,8 @@ use Rattle.tam_graph.specs.declared.kind.Kind.{Kind}
 use Rattle.tam_graph.specs.declared.kind.Kind.TheVariants.{Cond}
 use Rattle.tam_graph.specs.Graphs.{Code, Graph, code_of, kind_at, block_at, or_block, node_numbers, nodes_in, is_split, blocks_of}
 use Rattle.tam_graph.specs.Written.{named_by, is_line, IsWritten, Visit, AtNode, visits, branches, node_visited, vertices_at, number_of_vertices}
-use Rattle.tam_graph.specs.Accepted.{IsAccepted, faults_at, Cause}
+use Rattle.tam_graph.specs.Accepted.{IsAccepted, faults_at}
+use Rattle.tam_graph.specs.declared.check_cause.CheckCause.{CheckCause as Cause}
 use Rattle.tam_graph.specs.Built.{IsBuilt, is_built_kind, names_earlier}
 use Rattle.tam_graph.proofs.AcceptedFacts.{right-line}
 use Rattle.tam_graph.proofs.BranchBlocks.{has-body}

@@ -94,7 +94,8 @@ module _ (g : Graph) (acc : IsAccepted g) (built : IsBuilt g) (args : List ℕ) 
     pub none_pending : last.pending ≡ []
 
   -- it ends where it is done
-  done-ends : (all n : ℕ) (t : RootState) → IsKept (code_of g g.main) args all t → (enough : all ≤ limits.budget) → IsDone g args all limits t → HasEnd all n t
+  done-ends : (all n : ℕ) (t : RootState) → IsKept (code_of g g.main) args all t → (enough : all ≤ limits.budget) → IsDone g args all limits t
+      → HasEnd all n t
   done-ends all n t kept enough done = record {
     last = t;
     runs = run-ended (graph_step g limits) n (shown g t) (shown g t) Quiet done.ends;

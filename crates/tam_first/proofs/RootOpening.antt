@@ -57,7 +57,8 @@ zip-upwards n (w ∷ ws) = ap (λ ps. (n, w) ∷ ps) (zip-upwards (suc n) ws)
 -- each element with its place
 zip-numbered : (ws : List ℕ) → zip (below (length ws)) ws ≡ numbered 0 ws
 zip-numbered ws =
-    let all : below (length ws) ≡ upwards 0 (length ws) = sym (below-upwards 0 (length ws) ∙ ap below (let e : 0 + length ws ≡ length ws = omega arith in e)) in
+    let all : below (length ws) ≡ upwards 0 (length ws) = sym (below-upwards 0 (length ws)
+        ∙ ap below (let e : 0 + length ws ≡ length ws = omega arith in e)) in
     ap (λ ns. zip ns ws) all ∙ zip-upwards 0 ws
 
 -- an element stands at its place
@@ -175,7 +176,8 @@ module _ (g : Graph) (acc : IsAccepted g) (built : IsBuilt g) (args : List ℕ) 
     where
       go : (b : Bool) → is_param k (kind_at c x) ≡ b → times x (node_where c (is_param k)) ≡ one_if (is_param k (kind_at c x))
       go true e = rw (param-found g acc built x k (is-param k (kind_at c x) e), e, self-eq x) refl
-      go false e = times-none x (node_where c (is_param k)) (λ i. let p = found-param g acc built x k i in true≢false (sym (rw p (self-eq k)) ∙ e)) ∙ rw e refl
+      go false e = times-none x (node_where c (is_param k)) (λ i. let p = found-param g acc built x k i in true≢false (sym (rw p (self-eq k)) ∙ e))
+          ∙ rw e refl
 
   -- those that go to node x
   to-node : (x : ℕ) → total (inlet x) arguments ≡ total (λ (kw : ℕ × ℕ). one_if (is_param kw.0 (kind_at c x))) (numbered 0 args)
@@ -286,4 +288,5 @@ module _ (g : Graph) (acc : IsAccepted g) (built : IsBuilt g) (args : List ℕ) 
       two d n e = omega (arith, e)
 
       one : (kw : ℕ × ℕ) → length (argument_message g kw) ≤ 1
-      one kw = omega (arith, length-map (λ x. Carry 0 x kw.1) (node_where c (is_param kw.0)), length-first (λ x. is_param kw.0 (kind_at c x)) (node_numbers c))
+      one kw = omega (arith, length-map (λ x. Carry 0 x kw.1) (node_where c (is_param kw.0)),
+          length-first (λ x. is_param kw.0 (kind_at c x)) (node_numbers c))

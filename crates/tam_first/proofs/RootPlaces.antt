@@ -12,7 +12,8 @@ use Rattle.tam_word.proofs.Members.{one-first, in-or-not}
 use Rattle.tam_graph.specs.declared.kind.Kind.{Kind}
 use Rattle.tam_graph.specs.declared.kind.Kind.TheVariants.{Param, Give}
 use Rattle.tam_graph.specs.Graphs.{Graph, kind_at, block_at, node_numbers, node_where, is_param, is_any_give, params_of, results_of}
-use Rattle.tam_graph.specs.Accepted.{IsAccepted, Wrong_block, Place_twice, Place_range, is_wrong_block, is_place_twice, is_place_range, same_place}
+use Rattle.tam_graph.specs.Accepted.{IsAccepted, is_wrong_block, is_place_twice, is_place_range, same_place}
+use Rattle.tam_graph.specs.declared.check_cause.CheckCause.TheVariants.{WrongBlock as Wrong_block, PlaceTwice as Place_twice, PlaceRange as Place_range}
 use Rattle.tam_graph.specs.Built.{IsBuilt}
 use Rattle.tam_graph.proofs.AcceptedFacts.{node-there}
 use Rattle.tam_first.proofs.BuiltCodes.{root, size, no-faults}

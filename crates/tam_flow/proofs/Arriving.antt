@@ -73,7 +73,8 @@ module _ (g : Graph) (args : List ℕ) (accepted : IsAccepted g) (all : Partitio
     wish-there n c f x e = begin-there g args s.world c f x (all-at_place (IsMessage g args s.world) s.sent n (Begin c f x) sound.sent e)
 
     -- where messages are only added behind, what had arrived is what it was
-    old-message : (v : State) → ((n : ℕ) (m : Message) → slice_get s.sent n ≡ Some m → slice_get v.sent n ≡ Some m) → (n : ℕ) (m : Message) → n < length s.sent
+    old-message : (v : State) → ((n : ℕ) (m : Message) → slice_get s.sent n ≡ Some m → slice_get v.sent n ≡ Some m) → (n : ℕ) (m : Message)
+        → n < length s.sent
         → slice_get v.sent n ≡ Some m → slice_get s.sent n ≡ Some m
     old-message v sent n m l e = go (slice_get s.sent n) refl
       where

@@ -168,7 +168,8 @@ module _ (g : Graph) (args : List ℕ) where
           (sym (last i e))
           (grows.there f number.0, path i e ∙ ap (λ p. x ∷ p) (sym (grows.path f number.0 ∙ number.1)))
 
-      old_block : (i b : ℕ) → IsThere w i → was_entered (activation_at (with_begun w c f x) i).entered b ≡ true → BlockHolds (path_of (with_begun w c f x) i) b
+      old_block : (i b : ℕ) → IsThere w i → was_entered (activation_at (with_begun w c f x) i).entered b ≡ true
+          → BlockHolds (path_of (with_begun w c f x) i) b
       old_block i b l h = subst (λ p. BlockHolds p b) (sym (grows.path i l)) (sound.blocks i b l (subst (λ a. was_entered a.entered b ≡ true) (same i l) h))
 
       body : BlockHolds (x ∷ q) 0

@@ -142,7 +142,8 @@ module _ (g : Graph) (args : List ℕ) (accepted : IsAccepted g) (all : Partitio
                 )
 
       -- a delivery that goes well keeps it
-      once-went : length s.world.activations < 2 ^ 32 → IsMessage g args s.world x → (e : Effect) → IsSoundEffect g args s.world e → ComesOf s.world x (Went e)
+      once-went : length s.world.activations < 2 ^ 32 → IsMessage g args s.world x → (e : Effect) → IsSoundEffect g args s.world e
+          → ComesOf s.world x (Went e)
           → IsOnceState g args all (after_delivery s m (Went e))
       once-went few reason e effect comes = record {
         tags = once.tags ++ tagged_with 0 0 e.sends;
@@ -246,7 +247,8 @@ module _ (g : Graph) (args : List ℕ) (accepted : IsAccepted g) (all : Partitio
               }
 
       -- so each delivery keeps it
-      once-delivery : length s.world.activations < 2 ^ 32 → IsMessage g args s.world x → (d : Delivery) → IsSoundDelivery g args s.world d → ComesOf s.world x d
+      once-delivery : length s.world.activations < 2 ^ 32 → IsMessage g args s.world x → (d : Delivery) → IsSoundDelivery g args s.world d
+          → ComesOf s.world x d
           → IsOnceState g args all (after_delivery s m d)
       once-delivery few reason (Went e) effect comes = once-went few reason e effect comes
       once-delivery few reason (Printed k u) effect comes = once-stays (s.printed ++ (k, u) ∷ []) s.fault (λ p t h. absurd (none-some (sym whole ∙ h)))

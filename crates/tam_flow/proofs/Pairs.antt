@@ -149,7 +149,8 @@ none-pass test (y ∷ xs) n x l e p = go (test y) refl n e (λ m d k. none-pass 
     go false d (suc m) k i = i m k (rw d at l)
 
 -- where one is left, what passes stands at one place
-one-passes : {X : Type 0} (test : X → Bool) (xs : List X) (m n : ℕ) (x y : X) → length (filter test xs) ≡ 1 → slice_get xs m ≡ Some x → slice_get xs n ≡ Some y
+one-passes : {X : Type 0} (test : X → Bool) (xs : List X) (m n : ℕ) (x y : X) → length (filter test xs) ≡ 1 → slice_get xs m ≡ Some x
+    → slice_get xs n ≡ Some y
     → test x ≡ true → test y ≡ true → m ≡ n
 one-passes test [] m n x y l e d p q = absurd (none-some e)
 one-passes test (z ∷ xs) m n x y l e d p q = go (test z) refl m e n d (λ i j a b k. one-passes test xs i j x y k a b p q)

@@ -81,7 +81,8 @@ pub record IsOnceState (g : Graph) (args : List ℕ) (all : Partitions) (s : Sta
   pub begun_by : (j : ℕ) → IsThere s.world j → IsBegunBy s j
   pub some : IsThere s.world 0
   pub bodies : (j : ℕ) → IsThere s.world j → has_entered s.world j 0 ≡ true
-  pub filled_by : (a j u t : ℕ) → cell_at s.world a j ≡ Some (Filled u t) → (n : ℕ) × (slice_get s.sent n ≡ Some (Put_cell a j u t)) × (has s.arrived n ≡ true)
+  pub filled_by : (a j u t : ℕ) → cell_at s.world a j ≡ Some (Filled u t)
+      → (n : ℕ) × (slice_get s.sent n ≡ Some (Put_cell a j u t)) × (has s.arrived n ≡ true)
   pub double : (p t : ℕ) → s.fault ≡ Some (Second_store p t) → IsDouble g args s.world p t
 
 -- the tag of a message

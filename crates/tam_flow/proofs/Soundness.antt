@@ -94,7 +94,8 @@ module _ (g : Graph) (args : List ℕ) where
           × AllByRecursion (Holds g args) (values (path_of s.world h.0) (operands_of (its_code g s.world h.0) (kind_at (its_code g s.world h.0) x)) vs)
       words = words-hold s.world sound.world h.0 (operands_of (its_code g s.world h.0) (kind_at (its_code g s.world h.0) x)) vs h.1.0 h.4
 
-      ran : (y : ℕ) × (has_run s h.0 (block_at (its_code g s.world h.0) x) (class_of (parts_of_act g all s h.0 (block_at (its_code g s.world h.0) x)) y) ≡ true)
+      ran : (y : ℕ)
+          × (has_run s h.0 (block_at (its_code g s.world h.0) x) (class_of (parts_of_act g all s h.0 (block_at (its_code g s.world h.0) x)) y) ≡ true)
       ran = any-one (λ y. has_run s h.0 (block_at (its_code g s.world h.0) x) (class_of (parts_of_act g all s h.0 (block_at (its_code g s.world h.0) x)) y))
           (outlet_place (block_of_act g s h.0 (block_at (its_code g s.world h.0) x)) x) h.3
 

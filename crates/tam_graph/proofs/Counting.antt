@@ -1,5 +1,6 @@
 -- Nodes are counted by their numbers or in a row.
-use Rattle.std.proofs.Common.{◌≡◌, ℕ, zero, suc, ◌+◌, ◌<◌, ◌≤◌, Bool, true, false, cond, List, Some, length, take, slice_get, get_or, refl, sym, ap, ◌∙◌, inl, inr, arith}
+use Rattle.std.proofs.Common.{◌≡◌, ℕ, zero, suc, ◌+◌, ◌<◌, ◌≤◌, Bool, true, false, cond, List, Some, length, take, slice_get, get_or, refl, sym, ap, ◌∙◌, inl}
+use Rattle.std.proofs.Common.{inr, arith}
 use Rattle.std.specs.List.{count_by}
 use Rattle.std.proofs.Math.Seq.{take-length}
 use Rattle.std.proofs.lemmas.List.Sums.{sum_by_push, count_by_more_yes, count_by_more_no}
@@ -15,7 +16,8 @@ there : (nodes : List Node) (x : ℕ) → x < length nodes → (n : Node) × (sl
 there nodes x l = elim (slice_get_cases nodes x).1 [ inl a ↦ (a.0, a.2) | inr b ↦ absurd (let h = b.0 in omega (arith, h)) ]
 
 -- the nodes below n are counted either way
-counted-below : (c : Code) (test : Kind → Bool) (n : ℕ) → n ≤ length c.nodes → count_by (λ x. test (kind_at c x)) (below n) ≡ number_where test (take n c.nodes)
+counted-below : (c : Code) (test : Kind → Bool) (n : ℕ) → n ≤ length c.nodes
+    → count_by (λ x. test (kind_at c x)) (below n) ≡ number_where test (take n c.nodes)
 counted-below c test zero l = refl
 counted-below c test (suc n) l =
     let node = there c.nodes n (omega arith) in

@@ -1,5 +1,6 @@
 -- A code of an accepted graph has at most 64 params and at most 64 results.
-use Rattle.std.proofs.Common.{◌≡◌, ℕ, zero, suc, ◌<◌, ◌≤◌, Bool, true, false, ◌==◌, nat_lt, List, [], ◌∷◌, filter, map, length, refl, sym, subst, ◌∙◌, inl, inr, arith, tests, true≢false}
+use Rattle.std.proofs.Common.{◌≡◌, ℕ, zero, suc, ◌<◌, ◌≤◌, Bool, true, false, ◌==◌, nat_lt, List, [], ◌∷◌, filter, map, length, refl, sym, subst, ◌∙◌, inl}
+use Rattle.std.proofs.Common.{inr, arith, tests, true≢false}
 use Rattle.std.proofs.lemmas.List.{length-map}
 use Rattle.std.proofs.lemmas.List.Sums.{length-filter}
 use Rattle.std.proofs.lemmas.Bool.{cases_lt}

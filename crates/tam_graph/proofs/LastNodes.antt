@@ -1,5 +1,6 @@
 -- The last node below a number whose name has a hash, and the way from one such node to the one before it.
-use Rattle.std.proofs.Common.{◌≡◌, ◌≢◌, ℕ, zero, suc, ◌<◌, Bool, true, false, List, Option, Some, None, slice_get, length, refl, sym, ◌∙◌, inl, inr, arith, true≢false}
+use Rattle.std.proofs.Common.{◌≡◌, ◌≢◌, ℕ, zero, suc, ◌<◌, Bool, true, false, List, Option, Some, None, slice_get, length, refl, sym, ◌∙◌, inl, inr, arith}
+use Rattle.std.proofs.Common.{true≢false}
 use Rattle.std.proofs.lemmas.Option.{none-some, same_Some}
 use Rattle.std.proofs.lemmas.Bool.{cases_lt}
 use Rattle.std.proofs.Math.Nat.{eq-or-lt_of_le}
@@ -39,12 +40,14 @@ last-none nodes h zero e x l = absurd (omega arith)
 last-none nodes h (suc n) e x l = go (has_hash h (name_of (slice_get nodes n))) refl (last-none nodes h n)
   where
     go : (t : Bool) → has_hash h (name_of (slice_get nodes n)) ≡ t
-        → (last_below nodes h n ≡ None → (x : ℕ) → x < n → has_hash h (name_of (slice_get nodes x)) ≡ false) → has_hash h (name_of (slice_get nodes x)) ≡ false
+        → (last_below nodes h n ≡ None → (x : ℕ) → x < n → has_hash h (name_of (slice_get nodes x)) ≡ false)
+            → has_hash h (name_of (slice_get nodes x)) ≡ false
     go true p i = absurd (none-some n (sym (rw (last_below, p) at e)))
     go false p i = elim (last-or_before x n l) [ inl b ↦ i (rw (last_below, p) at e) x b | inr same ↦ rw same p ]
 
 -- one more node: the last one where its name has the hash
-pub last-here : (nodes : List Node) (h n : ℕ) (name : List ℕ) → name_of (slice_get nodes n) ≡ Some name → hash_of name ≡ h → last_below nodes h (suc n) ≡ Some n
+pub last-here : (nodes : List Node) (h n : ℕ) (name : List ℕ) → name_of (slice_get nodes n) ≡ Some name → hash_of name ≡ h
+    → last_below nodes h (suc n) ≡ Some n
 last-here nodes h n name e is = let p : has_hash h (name_of (slice_get nodes n)) ≡ true = rw (e, is) (self-eq h) in rw (last_below, p) refl
 
 -- and the one before where it hasn't
@@ -103,7 +106,8 @@ next-before nodes name next y more e i other is = record { bound = y; next_is = 
         ]
 
 -- where nothing comes next, no node has the name
-pub next-none : (nodes : List Node) (name : List ℕ) (next : Option ℕ) → next ≡ None → IsNext nodes name next → (x : ℕ) → name_of (slice_get nodes x) ≢ Some name
+pub next-none : (nodes : List Node) (name : List ℕ) (next : Option ℕ) → next ≡ None → IsNext nodes name next → (x : ℕ)
+    → name_of (slice_get nodes x) ≢ Some name
 next-none nodes name next e i x k =
     true≢false (sym (hashed-name (name_of (slice_get nodes x)) name k) ∙ last-none nodes (hash_of name) i.bound (sym i.next_is ∙ e) x (i.all_below x k))
 

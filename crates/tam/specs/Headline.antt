@@ -1,15 +1,15 @@
 -- What the top call makes sure of, by what is asked and by what is left of the file: its answer, and that runs are right.
-use Rattle.std.specs.Prelude.{ℕ, ◌≡◌, ◌≢◌, ◌⊎◌, List, [], ◌++◌, flat_map, map, Option, String}
+use Rattle.std.specs.Prelude.{ℕ, ◌≡◌, ◌≢◌, ◌≤◌, ◌⊎◌, List, [], ◌++◌, flat_map, map, length, Option, Some, String}
 use Rattle.std.specs.declared.alloc.Global.{Global}
 use Rattle.std.specs.String.{string_bytes}
 use Rattle.std.specs.Io.KnownBytes.{Appends, IsAtEnd}
-use Rattle.tam_edge.specs.Faults.{Rose}
+use Rattle.tam_edge.specs.Faults.{Rose, CountsFault}
 use Rattle.tam_edge.specs.Whole.{AppendsFront}
 use Rattle.tam_graph.specs.Graphs.{Graph}
 use Rattle.tam_msgs.specs.Runs.{Quiet, result_line, text_of, missing_of}
 use Rattle.tam_eval.specs.Headline.{IsRight}
-use Rattle.tam.specs.Words.{Asked, Names, asked, name_of}
-use Rattle.tam.specs.Answers.{Answer, AsksRun, run_of, usual_limits, read_fault_line, no_memory_line}
+use Rattle.tam.specs.Words.{Asked, Job, Names, asked, name_of}
+use Rattle.tam.specs.Answers.{Answer, AsksRun, Spells, run_of, usual_limits, most_bytes, read_fault_line, no_memory_line}
 
 -- what the words ask for
 abbrev pub ask_of : List (String Global) → Asked
@@ -30,6 +30,14 @@ pub record KeepsFiles (ask : Asked) (status : ℕ) (left left_new : List ℕ →
   pub read_fault : status ≡ 3 → Rose (faults (name_of ask)) (faults_new (name_of ask))
   pub fault_told : faults_new (name_of ask) ≢ faults (name_of ask) → (status ≡ 3) ⊎ (status ≡ 10)
   pub read_whole : status ≡ 0 → IsAtEnd (left_new (name_of ask))
+
+-- the bytes that are left of the file that is asked for are the text of the graph
+pub record IsRead (ask : Asked) (left : Option (List ℕ)) (g : Graph) (args : List ℕ) : Type 0 where
+  pub job : ask ≡ Job (name_of ask) args
+  pub bytes : List ℕ
+  pub told : left ≡ Some bytes
+  pub few : length bytes ≤ most_bytes
+  pub spelled : Spells bytes g
 
 -- the statuses that come
 pub data IsStatus : ℕ → Type 0 where
@@ -55,3 +63,9 @@ pub record IsRightRun (g : Graph) (args : List ℕ) (status : ℕ) (old new : Op
       ⊎ (((front rest : List (ℕ × ℕ)) × ((run_of g args).printed ≡ front ++ rest) × AppendsFront old new (flat_map result_line front ++ no_memory_line))
       ⊎ AppendsFront old new read_fault_line)
   pub no_other : (status ≡ 0) ⊎ ((status ≡ 3) ⊎ ((status ≡ 10) ⊎ (status ≡ 11)))
+
+-- an answer was written, whole, or broken off by a write fault
+pub record IsDone (ask : Asked) (left : Option (List ℕ)) (status : ℕ) (old new : Option (List ℕ)) (faults faults_new : ℕ) : Type 0 where
+  pub answered : status ≢ 10 → Answered ask left status old new
+  pub broken : status ≡ 10 → BrokeOff ask left old new × CountsFault faults faults_new
+  pub statuses : IsStatus status

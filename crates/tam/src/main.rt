@@ -1,6 +1,7 @@
 //! Runs a dataflow graph.
 #![tactic(auto)]
 
+mod job;
 mod say;
 mod status;
 mod usage_cause;

@@ -4,4 +4,6 @@
 //! Read `specs/FirstRuns.antt` first: what such a run is. Then `src/laws.rt`.
 #![tactic(auto)]
 
-pub mod laws;
+mod laws;
+
+pub use laws::law_first_run;

@@ -1,6 +1,6 @@
 -- Fronts of texts that are written line by line.
 use Rattle.std.proofs.Common.{◌≡◌, ◌<◌, ◌+◌, ℕ, List, [], ◌∷◌, ◌++◌, length, take, drop, get_or, Vec, refl, sym, ◌∙◌, ap, append_assoc}
-use Rattle.std.specs.Prelude.{Option, Result, Ok, Err, OnErr}
+use Rattle.std.specs.Prelude.{Option, None, Some, Result, Ok, Err, OnErr}
 use Rattle.std.specs.declared.alloc.Global.{Global}
 use Rattle.std.specs.List.{flat_map}
 use Rattle.std.proofs.lemmas.List.{append-nil, take-append-drop, take_more}
@@ -35,3 +35,8 @@ bytes-at xs i x l e =
 pub on-err : {T E P : Type 0} (r : Result T E) → P → OnErr r P
 on-err (Ok x) p = tt
 on-err (Err e) p = p
+
+-- nothing was taken
+pub nothing-taken : (old : Option (List ℕ)) → Appends old old []
+nothing-taken None = tt
+nothing-taken (Some xs) = sym (append-nil xs)

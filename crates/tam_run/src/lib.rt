@@ -8,8 +8,10 @@ mod broken;
 mod last_lines;
 mod lines;
 mod outcome;
+mod whole_run;
 mod writing;
 
 use broken::Broken;
 
 pub use outcome::Outcome;
+pub use whole_run::run;

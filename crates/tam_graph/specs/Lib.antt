@@ -7,6 +7,7 @@ pub mod Accepted
 pub mod Lines
 pub mod Texts
 pub mod Reading
+pub mod Finding
 pub mod Built
 pub mod ExampleGraphs
 pub mod AcceptedExamples

@@ -4,6 +4,11 @@
 //! Read `specs/Words.antt` first: it is the table of the operators. Then `specs/Numbers.antt`: which texts are words.
 #![tactic(auto)]
 
+pub mod laws;
 mod op;
+mod print;
+mod read;
 
-pub use op::Op;
+pub use op::{OPS, Op, apply, op_name, op_of};
+pub use print::print_word;
+pub use read::{read_number, read_word};

@@ -1,0 +1,18 @@
+// The numbers of calls, from 1, of which chosen ones fail.
+ghost use Rattle.std.specs.Prelude.{◌≡◌, ◌≤◌, ◌↔◌, Contains, IsTrue};
+ghost use Rattle.tam_edge.specs.Faults.{next_count};
+
+/// One more, but no more than the last value: the number of the next call, and a count of faults that rose.
+pub fn next_count(count: u64) -> u64
+    ensures value { result ≡ next_count count }
+    ensures later { count ≤ result }
+{
+    count.saturating_add(1)
+}
+
+/// Whether the call of that number is one of those that fail.
+pub fn is_to_fail(fail: &[u32], call: u64) -> bool
+    ensures { IsTrue result ↔ Contains fail.now call }
+{
+    fail.iter().any(|number| u64::from(*number) == call)
+}

@@ -1,0 +1,173 @@
+// Files in memory, of which chosen reads fail.
+ghost use Rattle.std.specs.Prelude.{◌≡◌, ◌≢◌, ◌↔◌, ◌+◌, ◌-◌, ◌^◌, ◌<◌, ◌≤◌, ◌⊎◌, min, List, ℕ, [], ◌∷◌, ◌++◌, length, map, reverse, take, Some, IfOk, OnOk, OnErr, IfSome, IfNone, IsTrue};
+ghost use Rattle.tam_edge.specs.Faults.{next_count, CountsRead};
+ghost use Rattle.tam_edge.specs.Reading.{KeepsPiece};
+ghost use Rattle.tam_edge.specs.Entries.{pairs_by, NoneNamed, IsFirstNamed};
+ghost use Rattle.tam_edge.specs.Held.{reversed_items, bytes_of, count_of};
+ghost use Rattle.tam_edge.specs.MemFiles.{FilesInMemory, bytes_left, fault_count, ReadsMemory};
+
+use crate::calls::{is_to_fail, next_count};
+use crate::entries::position_of;
+use crate::{FileError, Files};
+use std::alloc::{AllocError, Global};
+use std::marker::Model;
+
+/// Files by name, in memory. The reads with the numbers `fail` fail, counted from 1 over all names together.
+///
+/// A read that wants memory changes nothing, so the next one has its number.
+#[derive(Drop)]
+pub struct MemFiles {
+    alloc: Global,
+    // The bytes of a file stand in reverse, so that the next ones are taken off the end.
+    files: Vec<(String, Vec<u8>)>,
+    fail: Vec<u32>,
+    calls: u64,
+    faults: Vec<(String, u64)>,
+}
+
+impl Model for MemFiles {
+    ghost Value = { FilesInMemory };
+
+    ghost view = { λ m. record { files = pairs_by reversed_items m.files.items; fail = m.fail.items; calls = m.calls; faults = pairs_by (λ count. count) m.faults.items } };
+}
+
+impl MemFiles {
+    /// The files with these bytes. Of two with one name the first is read.
+    pub fn new(alloc: Global, mut files: Vec<(String, Vec<u8>)>, fail: Vec<u32>) -> MemFiles
+        ensures held { result.files ≡ pairs_by (λ bytes. bytes.items) files.items }
+        ensures fail { result.fail ≡ fail.items }
+        ensures uncalled { result.calls ≡ 0 }
+        ensures faultless { result.faults ≡ [] }
+    {
+        reverse_all(&mut files);
+        MemFiles {
+            alloc,
+            files,
+            fail,
+            calls: 0,
+            faults: Vec::new(alloc),
+        }
+    }
+}
+
+impl Files for MemFiles {
+    ghost left = { λ memory name. Some (bytes_left memory name) };
+
+    ghost faults = { fault_count };
+
+    fn read(&mut self, name: &str, piece: &mut [u8]) -> Result<usize, FileError>
+        requires { 0 < length piece.old }
+        ensures room { IfOk result (λ n. n ≤ length piece.new) }
+        ensures given { IfOk result (λ n. bytes_left self.old name.now ≡ take n piece.new ++ bytes_left self.new name.now) }
+        ensures end { IfOk result (λ n. (n ≡ 0) ↔ (bytes_left self.old name.now ≡ [])) }
+        ensures counted { CountsRead (fault_count self.old name.now) (fault_count self.new name.now) result }
+        ensures err { OnErr result (bytes_left self.new name.now ≡ bytes_left self.old name.now) }
+        ensures no_memory { KeepsPiece piece.old piece.new result }
+        ensures other_left { (other : List ℕ) → other ≢ name.now → bytes_left self.new other ≡ bytes_left self.old other }
+        ensures other_faults { (other : List ℕ) → other ≢ name.now → fault_count self.new other ≡ fault_count self.old other }
+
+        // It fails exactly where the call is to fail or the name is not held, and wants memory at a name's first fault alone.
+        ensures exact { ReadsMemory self.old self.new name.now (length piece.old) result }
+    {
+        let call = next_count(self.calls);
+        let fails = is_to_fail(&self.fail, call);
+        if let Some(count) = give_unless(fails, &mut self.files, name, piece) {
+            self.calls = call;
+            return Ok(count);
+        }
+        match note_fault(self.alloc, &mut self.faults, name) {
+            Ok(()) => {
+                self.calls = call;
+                Err(FileError::Failed)
+            }
+            Err(_) => Err(FileError::NoMemory),
+        }
+    }
+}
+
+// Puts the bytes of each file in reverse.
+fn reverse_all(files: &mut [(String, Vec<u8>)])
+    ensures { pairs_by reversed_items files.new ≡ pairs_by (λ bytes. bytes.items) files.old }
+{
+    for file in files.iter_mut() {
+        file.1.reverse();
+    }
+}
+
+// The next bytes of the first file of that name, if there is one and the call is not to fail.
+fn give_unless(
+    fails: bool,
+    files: &mut [(String, Vec<u8>)],
+    name: &str,
+    piece: &mut [u8],
+) -> Option<usize>
+    ensures fits { IfSome result (λ n. n ≡ min (length (bytes_of files.old name.now)) (length piece.old)) }
+    ensures given { IfSome result (λ n. bytes_of files.old name.now ≡ take n piece.new ++ bytes_of files.new name.now) }
+    ensures others { (other : List ℕ) → other ≢ name.now → bytes_of files.new other ≡ bytes_of files.old other }
+    ensures same_names { map (λ file. file.0) files.new ≡ map (λ file. file.0) files.old }
+    ensures some { IfSome result (λ n. ¬ IsTrue fails × ¬ NoneNamed files.old name.now) }
+    ensures none { IfNone result ((IsTrue fails ⊎ NoneNamed files.old name.now) × (files.new ≡ files.old) × (piece.new ≡ piece.old)) }
+{
+    if fails {
+        None
+    } else {
+        give(files, name, piece)
+    }
+}
+
+// The next bytes of the first file of that name, if there is one.
+fn give(files: &mut [(String, Vec<u8>)], name: &str, piece: &mut [u8]) -> Option<usize>
+    ensures fits { IfSome result (λ n. n ≡ min (length (bytes_of files.old name.now)) (length piece.old)) }
+    ensures given { IfSome result (λ n. bytes_of files.old name.now ≡ take n piece.new ++ bytes_of files.new name.now) }
+    ensures others { (other : List ℕ) → other ≢ name.now → bytes_of files.new other ≡ bytes_of files.old other }
+    ensures same_names { map (λ file. file.0) files.new ≡ map (λ file. file.0) files.old }
+    ensures some { IfSome result (λ n. ¬ NoneNamed files.old name.now) }
+    ensures none { IfNone result (NoneNamed files.old name.now × (files.new ≡ files.old) × (piece.new ≡ piece.old)) }
+{
+    match position_of(files, name) {
+        Some(i) => {
+            let file = &mut files[i];
+            Some(take_next(&mut file.1, piece))
+        }
+        None => None,
+    }
+}
+
+// Takes the next bytes off the end, as many as fit.
+fn take_next(bytes: &mut Vec<u8>, piece: &mut [u8]) -> usize
+    ensures fits { result ≡ min (length bytes.old.items) (length piece.old) }
+    ensures given { reverse bytes.old.items ≡ take result piece.new ++ reverse bytes.new.items }
+{
+    let count = bytes.len().min(piece.len());
+    let rest = bytes.len() - count;
+    let given = &mut piece[..count];
+    given.copy_from_slice(&bytes[rest..]);
+    given.reverse();
+    bytes.truncate(rest);
+    count
+}
+
+// Raises the count of faults of the name at that place.
+fn raise(faults: &mut [(String, u64)], name: &str, i: usize)
+    requires { IsFirstNamed faults.old name.now i }
+    ensures counted { count_of faults.new name.now ≡ next_count (count_of faults.old name.now) }
+    ensures later { count_of faults.old name.now ≤ count_of faults.new name.now }
+    ensures others { (other : List ℕ) → other ≢ name.now → count_of faults.new other ≡ count_of faults.old other }
+{
+    let fault = &mut faults[i];
+    fault.1 = next_count(fault.1);
+}
+
+// Notes a fault of a name, the first in a new entry.
+fn note_fault(alloc: Global, faults: &mut Vec<(String, u64)>, name: &str) -> Result<(), AllocError>
+    ensures counted { OnOk result (count_of faults.new.items name.now ≡ next_count (count_of faults.old.items name.now)) }
+    ensures later { OnOk result (count_of faults.old.items name.now ≤ count_of faults.new.items name.now) }
+    ensures others { (other : List ℕ) → other ≢ name.now → count_of faults.new.items other ≡ count_of faults.old.items other }
+    ensures err { OnErr result ((faults.new.items ≡ faults.old.items) × NoneNamed faults.old.items name.now) }
+{
+    match position_of(faults, name) {
+        Some(i) => raise(faults, name, i),
+        None => faults.push((String::from_str(alloc, name)?, 1))?,
+    }
+    Ok(())
+}

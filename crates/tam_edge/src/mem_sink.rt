@@ -1,0 +1,82 @@
+// A sink in memory, of which chosen writes fail.
+ghost use Rattle.std.specs.Prelude.{◌≡◌, ◌↔◌, ◌+◌, ◌-◌, ◌^◌, ◌<◌, ◌≤◌, ◌⊎◌, min, ℕ, [], ◌++◌, length, take, Some, IfOk, IsErr, OnErr, vec_len, vec_capacity};
+ghost use Rattle.std.specs.Io.KnownBytes.{Appends};
+ghost use Rattle.tam_edge.specs.Faults.{next_count, CountsPut};
+ghost use Rattle.tam_edge.specs.MemSink.{SinkInMemory, PutsMemory};
+
+use crate::calls::{is_to_fail, next_count};
+use crate::{Failed, NoMemory, Sink};
+use std::alloc::Global;
+use std::marker::Model;
+
+/// A sink in memory with room for so many bytes. The writes with the numbers `fail`, from 1, fail.
+#[derive(Drop)]
+pub struct MemSink {
+    bytes: Vec<u8>,
+    room: usize,
+    fail: Vec<u32>,
+    calls: u64,
+    faults: u64,
+}
+
+impl Model for MemSink {
+    ghost Value = { SinkInMemory };
+
+    ghost view = { λ s. record { bytes = s.bytes.items; room = s.room; fail = s.fail.items; calls = s.calls; faults = s.faults } };
+
+    ghost invariant = { λ s. (length s.bytes.items ≤ s.room) × (s.room ≤ vec_capacity s.bytes) };
+}
+
+impl MemSink {
+    /// An empty sink. Takes the memory for all its room.
+    pub fn new(alloc: Global, room: u32, fail: Vec<u32>) -> Result<MemSink, NoMemory>
+        ensures { IfOk result (λ sink. sink ≡ record { bytes = []; room = room; fail = fail.items; calls = 0; faults = 0 }) }
+    {
+        match Vec::with_capacity(alloc, room as usize) {
+            Ok(bytes) => Ok(MemSink {
+                bytes,
+                room: room as usize,
+                fail,
+                calls: 0,
+                faults: 0,
+            }),
+            Err(_) => Err(NoMemory),
+        }
+    }
+
+    /// The bytes taken.
+    pub fn bytes(&self) -> &[u8]
+        ensures { result.now ≡ self.now.bytes }
+    {
+        &self.bytes
+    }
+}
+
+impl Sink for MemSink {
+    ghost taken = { λ sink. Some sink.bytes };
+
+    ghost faults = { λ sink. sink.faults };
+
+    fn put(&mut self, piece: &[u8]) -> Result<usize, Failed>
+        requires { 0 < length piece.now }
+        ensures some { IfOk result (λ n. 0 < n) }
+        ensures room { IfOk result (λ n. n ≤ length piece.now) }
+        ensures took { IfOk result (λ n. self.new.bytes ≡ self.old.bytes ++ take n piece.now) }
+        ensures err { OnErr result (self.new.bytes ≡ self.old.bytes) }
+        ensures counted { CountsPut self.old.faults self.new.faults result }
+
+        // It fails exactly where the call is to fail or no room is left.
+        ensures exact { PutsMemory self.old self.new piece.now result }
+    {
+        self.calls = next_count(self.calls);
+        let count = piece.len().min(self.room - self.bytes.len());
+        if count == 0 || is_to_fail(&self.fail, self.calls) {
+            self.faults = next_count(self.faults);
+            return Err(Failed);
+        }
+        if self.bytes.extend_from_slice(&piece[..count]).is_err() {
+            unreachable!();
+        }
+        Ok(count)
+    }
+}

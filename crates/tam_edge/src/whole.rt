@@ -1,0 +1,80 @@
+// A whole file, and a whole text.
+ghost use Rattle.std.specs.Prelude.{◌≡◌, ◌≢◌, ◌≤◌, List, ℕ, length, IfOk, OnOk, OnErr};
+ghost use Rattle.std.specs.Io.KnownBytes.{Appends};
+ghost use Rattle.tam_edge.specs.Faults.{CountsReadWhole, CountsPut};
+ghost use Rattle.tam_edge.specs.Whole.{GivesAll, LeavesSuffix, TellsTooLong, AppendsFront};
+
+use crate::{Failed, FileError, Files, Sink};
+use std::alloc::Global;
+use thiserror::Error;
+
+/// Why a file was not read whole.
+#[derive(Clone, Copy, Debug, PartialEq, Eq, Error)]
+pub enum ReadError {
+    #[error("Fault")]
+    Fault,
+    #[error("TooLong")]
+    TooLong,
+    #[error("NoMemory")]
+    NoMemory,
+}
+
+const PIECE: usize = 4096;
+
+/// Reads all that is left of a name, which may be at most `limit` bytes.
+///
+/// After a refusal the bytes that were given are gone: what is left is a suffix of what was left before.
+pub fn read_whole<F: Files>(
+    alloc: Global,
+    files: &mut F,
+    name: &str,
+    limit: u32,
+) -> Result<Vec<u8>, ReadError>
+    ensures bound { IfOk result (λ bytes. length bytes.items ≤ limit) }
+    ensures all { IfOk result (λ bytes. GivesAll (F.left files.old name.now) (F.left files.new name.now) bytes.items) }
+
+    // Told bytes are too long exactly where they are more than the limit. A fault is told by the name's count.
+    ensures too_long { TellsTooLong (F.left files.old name.now) limit result }
+    ensures counted { CountsReadWhole (F.faults files.old name.now) (F.faults files.new name.now) result }
+    ensures err { OnErr result (LeavesSuffix (F.left files.old name.now) (F.left files.new name.now)) }
+
+    // No other name changes.
+    ensures other_left { (other : List ℕ) → other ≢ name.now → F.left files.new other ≡ F.left files.old other }
+    ensures other_faults { (other : List ℕ) → other ≢ name.now → F.faults files.new other ≡ F.faults files.old other }
+{
+    let limit = limit as usize;
+    let mut bytes = Vec::new(alloc);
+    let mut buffer = [0u8; PIECE];
+    'pieces: while bytes.len() <= limit {
+        let room = (limit + 1 - bytes.len()).min(PIECE);
+        let piece = &mut buffer[..room];
+        match files.read(name, piece) {
+            Ok(count) => {
+                if count == 0 {
+                    return Ok(bytes);
+                }
+                if bytes.extend_from_slice(&buffer[..count]).is_err() {
+                    return Err(ReadError::NoMemory);
+                }
+            }
+            Err(FileError::Failed) => return Err(ReadError::Fault),
+            Err(FileError::NoMemory) => return Err(ReadError::NoMemory),
+        }
+    }
+    Err(ReadError::TooLong)
+}
+
+/// Writes all the bytes, or a front of them before a fault. It takes no memory.
+pub fn write_whole<K: Sink>(out: &mut K, bytes: &[u8]) -> Result<(), Failed>
+    ensures ok { OnOk result (Appends (K.taken out.old) (K.taken out.new) bytes.now) }
+    ensures err { OnErr result (AppendsFront (K.taken out.old) (K.taken out.new) bytes.now) }
+    ensures counted { CountsPut (K.faults out.old) (K.faults out.new) result }
+{
+    let mut rest = bytes;
+    'pieces: while !rest.is_empty() {
+        let count = out.put(rest)?;
+        let (_, after) = rest.split_at(count);
+        rest = after;
+    }
+    Ok(())
+}

@@ -1,5 +1,5 @@
 // A graph.
-ghost use Rattle.std.specs.Prelude.{◌≡◌, ◌<◌, Some, length, slice_get};
+ghost use Rattle.std.specs.Prelude.{◌≡◌, ◌<◌, ◌≤◌, Some, length, slice_get};
 
 use std::marker::Model;
 use tam_graph::Code;
@@ -25,6 +25,7 @@ impl Model for Graph {
 impl Graph {
     pub fn codes(&self) -> u32
         ensures value { result ≡ length self.now.codes }
+        ensures few { result ≤ 256 }
     {
         self.codes.len() as u32
     }

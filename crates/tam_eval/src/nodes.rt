@@ -1,7 +1,7 @@
 // Nodes by their numbers and by what they do.
-ghost use Rattle.std.specs.Prelude.{◌≡◌, ◌<◌, ◌≤◌, length, option_to_list};
+ghost use Rattle.std.specs.Prelude.{◌≡◌, ◌<◌, ◌≤◌, length, slice_get, OnSome, option_to_list};
 ghost use Rattle.tam_word.specs.Lists.{below, first_of};
-ghost use Rattle.tam_graph.specs.Graphs.{code_of, kind_at, block_at, node_numbers, or_kind, or_block, owner_of};
+ghost use Rattle.tam_graph.specs.Graphs.{code_of, kind_at, test_of, callee_of, chosen_branch, fires, owner_of};
 ghost use Rattle.tam_eval.specs.Sought.{is_sought, sought_in};
 
 use crate::graph::Graph;
@@ -20,6 +20,7 @@ pub(crate) enum Sought {
 pub(crate) fn nodes_of(graph: &Graph, code: u32) -> &[Node]
     ensures value { result.now ≡ (code_of graph.now code).nodes }
     ensures few { length result.now ≤ 1024 }
+    ensures there { 0 < length result.now → code < 256 }
 {
     if code >= graph.codes() {
         return &[];
@@ -27,26 +28,69 @@ pub(crate) fn nodes_of(graph: &Graph, code: u32) -> &[Node]
     graph.code(code).nodes()
 }
 
-// What a node does; a node that isn't there is taken for an inlet of a block that isn't there.
-pub(crate) fn kind_at(graph: &Graph, code: u32, node: u32) -> Kind
-    ensures value { result ≡ kind_at (code_of graph.now code) node }
+// A node of a code.
+pub(crate) fn node_at(graph: &Graph, code: u32, node: u32) -> Option<Node>
+    ensures value { result ≡ slice_get (code_of graph.now code).nodes node }
+    ensures in_range { OnSome result ((code < 256) × (node < 1024)) }
 {
     let nodes = nodes_of(graph, code);
     if node as usize >= nodes.len() {
-        return Kind::Enter { place: 0 };
+        return None;
     }
-    nodes[node as usize].kind
+    Some(nodes[node as usize])
 }
 
-// The block of a node.
-pub(crate) fn block_at(graph: &Graph, code: u32, node: u32) -> u32
-    ensures value { result ≡ block_at (code_of graph.now code) node }
+// What a node does; a node that isn't there is taken for an inlet of a block that isn't there.
+pub(crate) fn kind_at(graph: &Graph, code: u32, node: u32) -> Kind
+    ensures { result ≡ kind_at (code_of graph.now code) node }
 {
-    let nodes = nodes_of(graph, code);
-    if node as usize >= nodes.len() {
-        return 0;
+    match node_at(graph, code, node) {
+        Some(node) => node.kind,
+        None => Kind::Enter { place: 0 },
     }
-    nodes[node as usize].block
+}
+
+// The node whose value decides a cond.
+pub(crate) fn test_of(graph: &Graph, code: u32, cond: u32) -> u32
+    ensures { result ≡ test_of (code_of graph.now code) cond }
+{
+    match kind_at(graph, code, cond) {
+        Kind::Cond { test, .. } => test,
+        _ => 0,
+    }
+}
+
+// The code that a call begins.
+pub(crate) fn callee_of(graph: &Graph, code: u32, call: u32) -> u32
+    ensures { result ≡ callee_of (code_of graph.now code) call }
+{
+    match kind_at(graph, code, call) {
+        Kind::Call { callee } => callee,
+        _ => 0,
+    }
+}
+
+// The branch that a word chooses.
+pub(crate) fn chosen_branch(graph: &Graph, code: u32, cond: u32, word: u32) -> u32
+    ensures { result ≡ chosen_branch (code_of graph.now code) cond word }
+{
+    match kind_at(graph, code, cond) {
+        Kind::Cond { yes, no, .. } => { if word == 0 { no } else { yes } }
+        _ => 0,
+    }
+}
+
+// Whether such a node has a vertex that fires.
+pub(crate) fn fires(kind: Kind) -> bool
+    ensures { result ≡ fires kind }
+{
+    match kind {
+        Kind::Param { .. } | Kind::Ret { .. } | Kind::Merge { .. } | Kind::Enter { .. } => false,
+        Kind::Const { .. } | Kind::Op { .. } | Kind::Seq { .. } => true,
+        Kind::Call { .. } | Kind::Arg { .. } | Kind::Give { .. } | Kind::Alloc { .. } => true,
+        Kind::Fetch { .. } | Kind::Store { .. } => true,
+        Kind::Cond { .. } | Kind::Switch { .. } | Kind::Leave { .. } => true,
+    }
 }
 
 // The cond that opens a block, if one does.
@@ -70,7 +114,8 @@ fn is_sought(sought: Sought, block: u32, kind: Kind) -> bool
     match (sought, kind) {
         (Sought::Param { place }, Kind::Param { place: k }) => k == place,
         (Sought::Ret { call, place }, Kind::Ret { call: f, place: k }) => f == call && k == place,
-        (Sought::Merge { cond, place }, Kind::Merge { cond: d, place: k }) => d == cond && k == place,
+        (Sought::Merge { cond, place }, Kind::Merge { cond: d, place: k }) => d == cond
+            && k == place,
         (Sought::Enter { block: b, place }, Kind::Enter { place: k }) => block == b && k == place,
         _ => false,
     }

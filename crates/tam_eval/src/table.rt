@@ -9,7 +9,7 @@ use crate::graph::Graph;
 use crate::nodes::{fires, kind_at, nodes_of, test_of};
 use std::alloc::Global;
 use tam_edge::NoMemory;
-use tam_graph::Kind;
+use tam_graph::{Kind, Node};
 
 /// Which vertices of a code an event may make ready, each list rising.
 #[derive(Drop)]
@@ -33,10 +33,15 @@ impl Table {
         let mut takers = Vec::new(alloc);
         let mut firers = Vec::new(alloc);
         for (x, node) in nodes.iter().enumerate() {
-            if fires(node.kind) {
-                add_takers(alloc, &mut takers, graph, code, node.kind, x as u32)?;
-                add(alloc, &mut firers, node.block, x as u32)?;
-            }
+            add_node(
+                alloc,
+                &mut takers,
+                &mut firers,
+                graph,
+                code,
+                *node,
+                x as u32,
+            )?;
         }
         let starters = starters_among(alloc, graph, code, list_at(&firers, 0))?;
         Ok(Table {
@@ -132,6 +137,26 @@ fn add_takers(
         }
         _ => Ok(()),
     }
+}
+
+// Adds a node that fires to the lists of its operands, and to that of its block.
+fn add_node(
+    alloc: Global,
+    takers: &mut Vec<Vec<u32>>,
+    firers: &mut Vec<Vec<u32>>,
+    graph: &Graph,
+    code: u32,
+    node: Node,
+    x: u32,
+) -> Result<(), NoMemory>
+    ensures takers { OnOk result ((z : ℕ) → listed takers.new.items z ≡ listed takers.old.items z ++ where_so (fires node.kind && has (operands_of (code_of graph.now code) node.kind) z) x) }
+    ensures firers { OnOk result ((z : ℕ) → listed firers.new.items z ≡ listed firers.old.items z ++ where_so ((node.block == z) && fires node.kind) x) }
+{
+    if !fires(node.kind) {
+        return Ok(());
+    }
+    add_takers(alloc, takers, graph, code, node.kind, x)?;
+    add(alloc, firers, node.block, x)
 }
 
 // Whether a node has no operand.

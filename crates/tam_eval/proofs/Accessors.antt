@@ -1,5 +1,6 @@
 -- What the words on a world say after a node got a word, a block was entered, or an activation began.
-use Rattle.std.proofs.Common.{◌≡◌, ◌≢◌, ℕ, zero, suc, ◌<◌, ◌≤◌, Bool, true, false, ◌==◌, ◌||◌, List, [], ◌∷◌, ◌++◌, nat_lt, subst, Some, None, length, slice_get, refl, sym, ap, ◌∙◌, arith, tests, ◌⊎◌, inl, inr, ⊎_elim}
+use Rattle.std.proofs.Common.{Option, true≢false, ◌≡◌, ◌≢◌, ℕ, zero, suc, ◌<◌, ◌≤◌, Bool, true, false, ◌==◌, ◌||◌, List, [], ◌∷◌, ◌++◌, nat_lt, subst, Some}
+use Rattle.std.proofs.Common.{None, length, slice_get, refl, sym, ap, ◌∙◌, arith, tests, ◌⊎◌, inl, inr, ⊎_elim}
 use Rattle.std.specs.Prelude.{is_some}
 use Rattle.std.proofs.lemmas.Option.{slice_get_past}
 use Rattle.tam_word.specs.Lists.{changed_at}
@@ -7,8 +8,10 @@ use Rattle.tam_word.proofs.Each.{get-left, get-last, length-changed_at}
 use Rattle.tam_word.proofs.Tests.{number-eq, number-differs}
 use Rattle.tam_word.proofs.ChangedAt.{changed_at-same, changed_at-other, changed_at-past}
 use Rattle.tam_graph.specs.Graphs.{Graph, code_of}
-use Rattle.tam_flow.specs.Worlds.{World, ActivationState, begun, or_activation, activation_at, its_code, word_at, has_word, has_entered, with_word, with_block, got, entered}
-use Rattle.tam_eval.proofs.Activations.{its_word, is_in, word-with_word, word-with_word_other, has-with_word, block-with_block, block-with_block_other, block-begun}
+use Rattle.tam_flow.specs.Worlds.{World, ActivationState, begun, or_activation, activation_at, its_code, word_at, has_word, has_entered, with_word, with_block}
+use Rattle.tam_flow.specs.Worlds.{got, entered}
+use Rattle.tam_eval.proofs.Activations.{its_word, is_in, word-with_word, word-with_word_other, has-with_word, block-with_block, block-with_block_other}
+use Rattle.tam_eval.proofs.Activations.{block-begun}
 
 -- the activation is there
 abbrev pub IsLive : World → ℕ → Type 0
@@ -21,6 +24,14 @@ with_changed w i f = record w { activations = changed_at i f w.activations }
 -- a world with one more activation
 abbrev pub with_begun : World → ℕ → ℕ → ℕ → World
 with_begun w k f x = record w { activations = w.activations ++ begun k f x ∷ [] }
+
+-- a node that has no word has none
+pub no_word : (w : World) (i y : ℕ) → has_word w i y ≡ false → word_at w i y ≡ None
+no_word w i y h = go (word_at w i y) h
+  where
+    go : (o : Option ℕ) → is_some o ≡ false → o ≡ None
+    go None k = refl
+    go (Some u) k = absurd (true≢false k)
 
 -- what stands at a place below the length is some element
 there : {X : Type 0} (xs : List X) (n : ℕ) → n < length xs → (x : X) × (slice_get xs n ≡ Some x)

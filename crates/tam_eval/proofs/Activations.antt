@@ -1,5 +1,6 @@
 -- One activation's words and blocks, and which of its nodes may fire, after it got a word, entered a block, or began.
-use Rattle.std.proofs.Common.{◌≡◌, ◌≢◌, ℕ, zero, suc, Bool, true, false, not, ◌==◌, ◌||◌, ◌&&◌, List, [], ◌∷◌, Option, Some, None, slice_index_or, refl, sym, ap, ◌∙◌, ⊎_elim, true≢false, arith}
+use Rattle.std.proofs.Common.{◌≡◌, ◌≢◌, ℕ, zero, suc, Bool, true, false, not, ◌==◌, ◌||◌, ◌&&◌, List, [], ◌∷◌, Option, Some, None, slice_index_or, refl, sym}
+use Rattle.std.proofs.Common.{ap, ◌∙◌, ⊎_elim, true≢false, arith}
 use Rattle.std.specs.Prelude.{is_some}
 use Rattle.tam_word.specs.Lists.{all_of, has}
 use Rattle.tam_word.proofs.Tests.{number-eq, number-differs, differs-number}

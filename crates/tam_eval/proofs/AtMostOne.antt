@@ -1,25 +1,17 @@
 -- An `in` and a merge of a place are one node at most, and what joins after such a node got a word.
-use Rattle.std.proofs.Common.{◌≡◌, ℕ, ◌≤◌, Bool, true, false, List, [], ◌∷◌, Option, Some, None, length, filter, map, flat_map, slice_get, inl, refl, sym, ap, ◌∙◌, arith, true≢false}
-use Rattle.std.specs.Prelude.{is_some}
+use Rattle.std.proofs.Common.{◌≡◌, ℕ, ◌≤◌, Bool, true, List, [], ◌∷◌, Option, Some, None, length, filter, map, flat_map, slice_get, inl, refl, sym, ap, ◌∙◌}
+use Rattle.std.proofs.Common.{arith}
 use Rattle.std.proofs.lemmas.List.{append-nil}
-use Rattle.tam_word.specs.Lists.{first_of, has}
+use Rattle.tam_word.specs.Lists.{has}
+use Rattle.tam_word.proofs.Sifted.{first_of-one}
 use Rattle.tam_word.proofs.Members.{in-has}
 use Rattle.tam_graph.specs.declared.kind.Kind.{Kind}
 use Rattle.tam_graph.specs.Graphs.{Graph, Code, kind_at, nodes_in, node_numbers, node_where, node_in, owner_of, one_or_none, is_merge}
 use Rattle.tam_flow.specs.Worlds.{World, its_code, word_at, has_word, got, all_got, merges_of}
 use Rattle.tam_eval.specs.GraphRuns.{is_enabled, joins}
-use Rattle.tam_eval.specs.Takers.{takers_of}
+use Rattle.tam_eval.specs.Takers.{takers_of, takers_now}
 use Rattle.tam_eval.proofs.Accessors.{IsLive}
-use Rattle.tam_eval.proofs.Joins.{joins-got, joins-got_again, joins-unchanged}
-
--- the first that passes is one at most
-pub first_of-one : {X : Type 0} (test : X → Bool) (xs : List X) → length (first_of test xs) ≤ 1
-first_of-one test [] = omega arith
-first_of-one test (x ∷ xs) = go (test x) refl (first_of-one test xs)
-  where
-    go : (b : Bool) → test x ≡ b → length (first_of test xs) ≤ 1 → length (first_of test (x ∷ xs)) ≤ 1
-    go true e i = rw (first_of, e) (omega arith)
-    go false e i = rw (first_of, e) i
+use Rattle.tam_eval.proofs.Joins.{joins-got, joins-got_any, joins-got_again, joins-unchanged}
 
 -- a node of a kind is one at most
 pub node_where-one : (c : Code) (test : Kind → Bool) → length (node_where c test) ≤ 1
@@ -56,14 +48,6 @@ all_got-none w i v = refl
 pub all_got-one : (w : World) (i y v : ℕ) → all_got w i (y ∷ []) v ≡ got w i y v
 all_got-one w i y v = refl
 
--- a node that has no word has none
-pub no_word : (w : World) (i y : ℕ) → has_word w i y ≡ false → word_at w i y ≡ None
-no_word w i y h = go (word_at w i y) h
-  where
-    go : (o : Option ℕ) → is_some o ≡ false → o ≡ None
-    go None k = refl
-    go (Some u) k = absurd (true≢false k)
-
 -- after one node at most got its first word, those of its takers that may fire join
 pub joins-all_got : (g : Graph) (w : World) (i : ℕ) (ys : List ℕ) (v : ℕ) → IsLive w i → length ys ≤ 1
     → ((y : ℕ) → has ys y ≡ true → word_at w i y ≡ None)
@@ -80,3 +64,12 @@ pub joins-all_got_again : (g : Graph) (w : World) (i : ℕ) (ys : List ℕ) (v :
 joins-all_got_again g w i [] v one h = joins-unchanged g w
 joins-all_got_again g w i (y ∷ []) v one h = joins-got_again g w i y v (h y (in-has (y ∷ []) y (inl refl)))
 joins-all_got_again g w i (y ∷ (z ∷ more)) v one h = absurd (omega arith)
+
+-- in any case those of its takers that may fire join, if it had no word
+pub joins-all_got_any : (g : Graph) (w : World) (i : ℕ) (ys : List ℕ) (v : ℕ) → length ys ≤ 1
+    → joins g w (all_got w i ys v) ≡ map (λ x. (i, x)) (filter (is_enabled g (all_got w i ys v) i) (flat_map (takers_now g w i) ys))
+joins-all_got_any g w i [] v one = joins-unchanged g w
+joins-all_got_any g w i (y ∷ []) v one =
+    joins-got_any g w i y v
+    ∙ ap (λ xs. map (λ x. (i, x)) (filter (is_enabled g (got w i y v) i) xs)) (sym (append-nil (takers_now g w i y)))
+joins-all_got_any g w i (y ∷ (z ∷ more)) v one = absurd (omega arith)

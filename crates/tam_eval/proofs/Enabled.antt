@@ -6,12 +6,16 @@ use Rattle.tam_graph.specs.Graphs.{Graph, code_of, kind_at, block_at, operands_o
 use Rattle.tam_flow.specs.Worlds.{World, or_activation, activation_at, its_code, has_word, has_entered, with_word, with_block, got, all_got, entered}
 use Rattle.tam_eval.specs.GraphRuns.{is_enabled}
 use Rattle.tam_eval.specs.Takers.{is_none}
-use Rattle.tam_eval.proofs.Activations.{may_fire, gate, is_fed, gate-all, gate-open, open-gate, may_fire-with_block, may_fire-begun, keeps-word, keeps-block, stays-word}
-use Rattle.tam_eval.proofs.Accessors.{IsLive, with_begun, changed-activation, other-activation, changed-cases, activation-begun, activation-begun_other, activation-past}
+use Rattle.tam_eval.proofs.Activations.{may_fire, gate, is_fed, gate-all, gate-open, open-gate, may_fire-with_block, may_fire-begun, keeps-word, keeps-block}
+use Rattle.tam_eval.proofs.Activations.{stays-word}
+use Rattle.tam_eval.proofs.Accessors.{IsLive, with_begun, changed-activation, other-activation, changed-cases, activation-begun, activation-begun_other}
+use Rattle.tam_eval.proofs.Accessors.{activation-past}
 
 -- an activation that isn't there has no vertex that may fire
 pub enabled-past : (g : Graph) (w : World) (j x : ℕ) → length w.activations ≤ j → is_enabled g w j x ≡ false
-enabled-past g w j x l = ap (λ a. may_fire (code_of g a.code) a x) (activation-past w j l) ∙ shut (fires (kind_at (code_of g 0) x)) (is_fed (code_of g 0) (or_activation None) x)
+enabled-past g w j x l =
+    ap (λ a. may_fire (code_of g a.code) a x) (activation-past w j l)
+    ∙ shut (fires (kind_at (code_of g 0) x)) (is_fed (code_of g 0) (or_activation None) x)
   where
     shut : (s t : Bool) → gate s false t ≡ false
     shut true t = refl

@@ -1,16 +1,20 @@
 -- Which vertices join the ready list after each kind of event, by lists of takers and of the nodes of a block.
-use Rattle.std.proofs.Common.{◌≡◌, ◌≢◌, ℕ, ◌≤◌, Bool, true, false, ◌==◌, ◌&&◌, List, [], None, length, filter, map, refl, sym, ap, ◌∙◌, subst, arith, ⊎_elim}
+use Rattle.std.proofs.Common.{nat_lt, tests, ◌≡◌, ◌≢◌, ℕ, ◌≤◌, Bool, true, false, ◌==◌, ◌&&◌, List, [], None, length, filter, map, refl, sym, ap, ◌∙◌}
+use Rattle.std.proofs.Common.{subst, arith, ⊎_elim}
 use Rattle.tam_word.specs.Lists.{has}
 use Rattle.tam_word.proofs.Sifted.{filter-alike, filter-twice, filter-none, flat_map-below_none, flat_map-below_one}
 use Rattle.tam_istr.specs.Cells.{Arrays}
 use Rattle.tam_msgs.specs.Messages.{outside}
 use Rattle.tam_graph.specs.Graphs.{Graph, Code, code_of, kind_at, block_at, operands_of, fires, node_numbers}
-use Rattle.tam_flow.specs.Worlds.{World, ActivationState, begun, activation_at, its_code, word_at, has_word, has_entered, with_word, with_block, got, entered, opening}
+use Rattle.tam_flow.specs.Worlds.{World, ActivationState, begun, activation_at, its_code, word_at, has_word, has_entered, with_word, with_block, got, entered}
+use Rattle.tam_flow.specs.Worlds.{opening}
 use Rattle.tam_eval.specs.GraphRuns.{is_enabled, joins_at, joins, nothing_begun}
-use Rattle.tam_eval.specs.Takers.{takers_of, firers_in, starters_of, is_none}
-use Rattle.tam_eval.proofs.Activations.{its_word, is_in, may_fire, newly, newly-same, newly-all, newly-word, newly-block, again-word, again-block, may_fire-begun}
+use Rattle.tam_eval.specs.Takers.{takers_of, firers_in, starters_of, is_none, takers_now, firers_now}
+use Rattle.tam_eval.proofs.Activations.{its_word, is_in, may_fire, newly, newly-same, newly-all, newly-word, newly-block, again-word, again-block}
+use Rattle.tam_eval.proofs.Activations.{may_fire-begun}
 use Rattle.tam_eval.proofs.Enabled.{enabled-past}
-use Rattle.tam_eval.proofs.Accessors.{changed-cases, IsLive, with_begun, length-with_changed, changed-activation, other-activation, nothing-changed, length-begun, activation-begun, activation-begun_other}
+use Rattle.tam_eval.proofs.Accessors.{no_word, changed-cases, IsLive, with_begun, length-with_changed, changed-activation, other-activation, nothing-changed}
+use Rattle.tam_eval.proofs.Accessors.{length-begun, activation-begun, activation-begun_other}
 
 module _ (g : Graph) (w v : World) where
   -- an activation whose vertices may fire as before has none that join
@@ -51,9 +55,9 @@ word-takers c a y v h =
     ∙ sym (filter-twice (λ x. fires (kind_at c x) && has (operands_of c (kind_at c x)) y) (may_fire c (with_word y v a)) (node_numbers c))
 
 -- the nodes of a block that fire, sifted, by one test of all nodes
-firers-sifted : (c : Code) (b : ℕ) (test : ℕ → Bool)
+firers-sifted_further : (c : Code) (b : ℕ) (test : ℕ → Bool)
     → filter test (firers_in c b) ≡ filter (λ x. ((block_at c x == b) && fires (kind_at c x)) && test x) (node_numbers c)
-firers-sifted c b test =
+firers-sifted_further c b test =
     ap (filter test) (filter-twice (λ x. block_at c x == b) (λ x. fires (kind_at c x)) (node_numbers c))
     ∙ filter-twice (λ x. (block_at c x == b) && fires (kind_at c x)) test (node_numbers c)
 
@@ -63,7 +67,7 @@ block-firers : (c : Code) (a : ActivationState) (b : ℕ) → is_in a b ≡ fals
 block-firers c a b h =
     filter-alike (λ x. newly (may_fire c (with_block b a) x) (may_fire c a x))
     (λ x. ((block_at c x == b) && fires (kind_at c x)) && may_fire c (with_block b a) x) (λ x. newly-block c a b x h) (node_numbers c)
-    ∙ sym (firers-sifted c b (may_fire c (with_block b a)))
+    ∙ sym (firers-sifted_further c b (may_fire c (with_block b a)))
 
 -- ---- a node got a word
 
@@ -86,6 +90,22 @@ joins-got_again g w i y v h =
 pub joins-got_past : (g : Graph) (w : World) (i y v : ℕ) → length w.activations ≤ i → joins g w (got w i y v) ≡ []
 joins-got_past g w i y v l = joins-none g w (got w i y v) (λ j x. ap (λ u. is_enabled g u j x) (nothing-changed w i (with_word y v) l))
 
+-- in any case those of its takers that may fire join, if it had no word
+pub joins-got_any : (g : Graph) (w : World) (i y v : ℕ)
+    → joins g w (got w i y v) ≡ map (λ x. (i, x)) (filter (is_enabled g (got w i y v) i) (takers_now g w i y))
+joins-got_any g w i y v = go (has_word w i y) refl (nat_lt i (length w.activations)) refl
+  where
+    go : (b : Bool) → has_word w i y ≡ b → (d : Bool) → nat_lt i (length w.activations) ≡ d
+        → joins g w (got w i y v) ≡ map (λ x. (i, x)) (filter (is_enabled g (got w i y v) i) (takers_now g w i y))
+    go true e d k = rw (takers_now, e) (joins-got_again g w i y v e)
+    go false e true k = rw (takers_now, e) (joins-got g w i y v (grind (arith, tests)) (no_word w i y e))
+    go false e false k =
+        let past : length w.activations ≤ i = grind (arith, tests) in
+        rw (takers_now, e)
+        (joins-got_past g w i y v past
+        ∙ sym (ap (map (λ x. (i, x))) (filter-none (is_enabled g (got w i y v) i)
+        (λ x. enabled-past g (got w i y v) i x (omega (arith, length-with_changed w i (with_word y v)))) (takers_of (its_code g w i) y))))
+
 -- ---- a block was entered
 
 -- after a block was entered, those of its nodes that may fire join
@@ -107,17 +127,33 @@ joins-entered_again g w i b h =
 pub joins-entered_past : (g : Graph) (w : World) (i b : ℕ) → length w.activations ≤ i → joins g w (entered w i b) ≡ []
 joins-entered_past g w i b l = joins-none g w (entered w i b) (λ j x. ap (λ u. is_enabled g u j x) (nothing-changed w i (with_block b) l))
 
+-- in any case those of its nodes that may fire join, if it had not been entered
+pub joins-entered_any : (g : Graph) (w : World) (i b : ℕ)
+    → joins g w (entered w i b) ≡ map (λ x. (i, x)) (filter (is_enabled g (entered w i b) i) (firers_now g w i b))
+joins-entered_any g w i b = go (has_entered w i b) refl (nat_lt i (length w.activations)) refl
+  where
+    go : (t : Bool) → has_entered w i b ≡ t → (d : Bool) → nat_lt i (length w.activations) ≡ d
+        → joins g w (entered w i b) ≡ map (λ x. (i, x)) (filter (is_enabled g (entered w i b) i) (firers_now g w i b))
+    go true e d k = rw (firers_now, e) (joins-entered_again g w i b e)
+    go false e true k = rw (firers_now, e) (joins-entered g w i b (grind (arith, tests)) e)
+    go false e false k =
+        let past : length w.activations ≤ i = grind (arith, tests) in
+        rw (firers_now, e)
+        (joins-entered_past g w i b past
+        ∙ sym (ap (map (λ x. (i, x))) (filter-none (is_enabled g (entered w i b) i)
+        (λ x. enabled-past g (entered w i b) i x (omega (arith, length-with_changed w i (with_block b)))) (firers_in (its_code g w i) b))))
+
 -- ---- an activation began
 
 -- in an activation that begins, the nodes of the body without operands may fire, and no others
 begun-starters : (c : Code) (k f z : ℕ) → filter (may_fire c (begun k f z)) (firers_in c 0) ≡ starters_of c
 begun-starters c k f z =
-    firers-sifted c 0 (may_fire c (begun k f z))
+    firers-sifted_further c 0 (may_fire c (begun k f z))
     ∙ filter-alike (λ x. ((block_at c x == 0) && fires (kind_at c x)) && may_fire c (begun k f z) x)
     (λ x. ((block_at c x == 0) && fires (kind_at c x)) && is_none (operands_of c (kind_at c x)))
     (λ x. ap (λ t. ((block_at c x == 0) && fires (kind_at c x)) && t) (may_fire-begun c k f z x)
     ∙ twice ((block_at c x == 0) && fires (kind_at c x)) (is_none (operands_of c (kind_at c x)))) (node_numbers c)
-    ∙ sym (firers-sifted c 0 (λ x. is_none (operands_of c (kind_at c x))))
+    ∙ sym (firers-sifted_further c 0 (λ x. is_none (operands_of c (kind_at c x))))
   where
     twice : (s t : Bool) → (s && (s && t)) ≡ (s && t)
     twice true t = refl
@@ -129,7 +165,7 @@ begun-new : (c : Code) (k f z : ℕ) (before : ℕ → Bool) → ((x : ℕ) → 
 begun-new c k f z before h =
     filter-alike (λ x. newly (may_fire c (begun k f z) x) (before x)) (λ x. ((block_at c x == 0) && fires (kind_at c x)) && may_fire c (begun k f z) x)
     (λ x. ap (newly (may_fire c (begun k f z) x)) (h x) ∙ newly-all (may_fire c (begun k f z) x) ∙ again x) (node_numbers c)
-    ∙ sym (firers-sifted c 0 (may_fire c (begun k f z)))
+    ∙ sym (firers-sifted_further c 0 (may_fire c (begun k f z)))
   where
     twice : (s t : Bool) → (s && t) ≡ (s && (s && t))
     twice true t = refl

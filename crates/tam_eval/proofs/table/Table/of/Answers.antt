@@ -12,7 +12,7 @@ pub loop-x-preserved : goal.loop-x-preserved
 loop-x-preserved c =
     let code = code_of c.args.graph.now c.args.code in
     let read : slice_get code.nodes c.loop-x.x ≡ Some c.index-nodes-x.result =
-        rw c.nodes_of-nodes.ensures.value at (slice_get_read c.nodes_of-nodes.result.now (length c.nodes_of-nodes.result.now) c.loop-x.x c.index-nodes-x.result refl c.loop-x-test.true c.index-nodes-x.is) in
+    rw c.nodes_of-nodes.ensures.value at (slice_get_read c.nodes_of-nodes.result.now (length c.nodes_of-nodes.result.now) c.loop-x.x c.index-nodes-x.result refl c.loop-x-test.true c.index-nodes-x.is) in
     rw add-one (lists-next code (listed c.loop-x.takers.items) (listed c.loop-x.firers.items) (listed c.add_node.new.takers.items) (listed c.add_node.new.firers.items) c.loop-x.x c.index-nodes-x.result
     c.loop-x.invariant read c.in_ok-add_node.ensures.takers c.in_ok-add_node.ensures.firers)
 

@@ -1,9 +1,10 @@
 -- The lists of a code's table, node by node.
-use Rattle.std.proofs.Common.{◌≡◌, ◌∙◌, ℕ, suc, ◌<◌, ◌==◌, ◌&&◌, Bool, true, false, List, ◌∷◌, [], ◌++◌, Option, Some, None, length, filter, nat_lt, refl, sym, ap, subst, arith, tests, ⊎_elim, length-append}
+use Rattle.std.proofs.Common.{◌≡◌, ◌∙◌, ℕ, suc, ◌<◌, ◌≤◌, ◌==◌, ◌&&◌, Bool, true, false, List, ◌∷◌, [], ◌++◌, Option, Some, None, length, filter, nat_lt, refl, sym, ap, subst, arith, tests, ⊎_elim, length-append}
 use Rattle.std.specs.Prelude.{slice_get}
 use Rattle.tam_word.specs.Lists.{below, has, where_so}
 use Rattle.tam_word.proofs.Sifted.{filter-twice}
 use Rattle.tam_graph.specs.declared.node.Node.{Node}
+use Rattle.tam_word.proofs.Tests.{test-below}
 use Rattle.tam_word.proofs.Each.{get-left, get-last, get-past, last-or_before}
 use Rattle.tam_eval.specs.declared.table.Table.{Table}
 use Rattle.tam_eval.specs.Tables.{IsTableOf, AreTables}
@@ -66,8 +67,9 @@ pub tables-all : (g : Graph) (tables : List Table) → AreTablesBelow g tables (
 tables-all g tables below_all k = go (nat_lt k (length g.codes)) refl
   where
     go : (b : Bool) → nat_lt k (length g.codes) ≡ b → IsTableOf (code_of g k) (slice_get tables k)
-    go true e = below_all.each k (omega (arith, tests, e))
+    go true e = below_all.each k (test-below k (length g.codes) e)
     go false e =
-        let none : slice_get tables k ≡ None = get-past tables k (omega (arith, tests, e, below_all.count)) in
-        let no_such : code_of g k ≡ no_code = ap or_code (get-past g.codes k (omega (arith, tests, e))) in
+        let past : length g.codes ≤ k = grind (arith, tests) in
+        let none : slice_get tables k ≡ None = get-past tables k (omega (arith, past, below_all.count)) in
+        let no_such : code_of g k ≡ no_code = ap or_code (get-past g.codes k past) in
         rw (none, no_such) (record { takers = λ y. refl; firers = λ b. refl; starters = refl })

@@ -1,7 +1,10 @@
 -- What contracts see of a run in the evaluator.
-use Rattle.std.specs.Prelude.{ℕ, List, [], map}
+use Rattle.std.specs.Prelude.{ℕ, List, [], ◌∷◌, ◌++◌, map, length}
+use Rattle.tam_graph.specs.declared.kind.Kind.{Kind}
+use Rattle.tam_graph.specs.Graphs.{Graph, operands_of}
 use Rattle.tam_msgs.specs.declared.message.Message.{Message}
-use Rattle.tam_flow.specs.Worlds.{World, ActivationState}
+use Rattle.tam_flow.specs.Worlds.{World, ActivationState, Effect, changes, its_code, words_of, firing_of}
+use Rattle.tam_eval.specs.GraphRuns.{joins}
 use Rattle.tam_eval.specs.declared.activation.Activation.{Activation}
 use Rattle.tam_eval.specs.declared.machine.Machine.{Machine}
 
@@ -32,3 +35,20 @@ state_of m = record {
   pending = m.pending;
   events = m.events;
 }
+
+-- the state after an event with this effect
+abbrev pub effected : Graph → EvalState → Effect → EvalState
+effected g s e = record s { world = e.world; ready = s.ready ++ joins g s.world e.world; pending = s.pending ++ e.sends }
+
+-- what a node of this kind does, once its operands have words
+abbrev pub effect_with : Graph → World → ℕ → ℕ → Kind → List (List ℕ) → Effect
+effect_with g w i x kind [] = changes w
+effect_with g w i x kind (vs ∷ more) = firing_of g w i x kind vs
+
+-- what a node of this kind does
+abbrev pub fired_as : Graph → World → ℕ → ℕ → Kind → Effect
+fired_as g w i x kind = effect_with g w i x kind (words_of w i (operands_of (its_code g w i) kind))
+
+-- how many activations and arrays there are, and how many cells there may be
+abbrev pub sizes_of : Machine → ℕ × ℕ × ℕ
+sizes_of m = (length m.activations.items, length m.cells.arrays, m.cells.limit)

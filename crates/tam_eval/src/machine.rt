@@ -74,14 +74,14 @@ pub(crate) fn word_at(activations: &[Activation], i: u32, node: u32) -> Option<u
     }
 }
 
-fn has_word(activations: &[Activation], i: u32, node: u32) -> bool
+pub(crate) fn has_word(activations: &[Activation], i: u32, node: u32) -> bool
     ensures { result ≡ has_word (world_with activations.now) i node }
 {
     word_at(activations, i, node).is_some()
 }
 
 // Whether an activation has entered a block.
-fn has_entered(activations: &[Activation], i: u32, block: u32) -> bool
+pub(crate) fn has_entered(activations: &[Activation], i: u32, block: u32) -> bool
     ensures { result ≡ has_entered (world_with activations.now) i block }
 {
     if (i as usize) < activations.len() {
@@ -133,7 +133,7 @@ fn is_enabled(graph: &Graph, activations: &[Activation], i: u32, node: u32) -> b
 }
 
 // Those of the nodes that may fire become ready.
-fn ready_among(
+pub(crate) fn ready_among(
     graph: &Graph,
     activations: &[Activation],
     ready: &mut VecDeque<(u32, u32)>,

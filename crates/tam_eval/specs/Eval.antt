@@ -1,5 +1,5 @@
 -- What contracts see of a run in the evaluator.
-use Rattle.std.specs.Prelude.{ℕ, List, [], ◌∷◌, ◌++◌, map, length}
+use Rattle.std.specs.Prelude.{ℕ, List, [], ◌∷◌, ◌++◌, map, length, Option, Some, None}
 use Rattle.tam_graph.specs.declared.kind.Kind.{Kind}
 use Rattle.tam_graph.specs.Graphs.{Graph, operands_of}
 use Rattle.tam_msgs.specs.declared.message.Message.{Message}
@@ -52,3 +52,16 @@ fired_as g w i x kind = effect_with g w i x kind (words_of w i (operands_of (its
 -- how many activations and arrays there are, and how many cells there may be
 abbrev pub sizes_of : Machine → ℕ × ℕ × ℕ
 sizes_of m = (length m.activations.items, length m.cells.arrays, m.cells.limit)
+
+-- one word, two or three, as a list of at most one list
+abbrev pub one_listed : Option ℕ → List (List ℕ)
+one_listed None = []
+one_listed (Some u) = (u ∷ []) ∷ []
+
+abbrev pub two_listed : Option (ℕ × ℕ) → List (List ℕ)
+two_listed None = []
+two_listed (Some p) = (p.0 ∷ p.1 ∷ []) ∷ []
+
+abbrev pub three_listed : Option (ℕ × ℕ × ℕ) → List (List ℕ)
+three_listed None = []
+three_listed (Some p) = (p.0 ∷ p.1 ∷ p.2 ∷ []) ∷ []

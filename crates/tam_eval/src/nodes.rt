@@ -1,7 +1,8 @@
 // Nodes by their numbers and by what they do.
 ghost use Rattle.std.specs.Prelude.{◌≡◌, ◌<◌, ◌≤◌, length, slice_get, OnSome, option_to_list};
 ghost use Rattle.tam_word.specs.Lists.{below, first_of};
-ghost use Rattle.tam_graph.specs.Graphs.{code_of, kind_at, test_of, callee_of, chosen_branch, fires, owner_of};
+ghost use Rattle.tam_graph.specs.Graphs.{code_of, kind_at, test_of, callee_of, chosen_branch, fires, owner_of, node_in, is_enter};
+ghost use Rattle.tam_flow.specs.Worlds.{merges_of};
 ghost use Rattle.tam_eval.specs.Sought.{is_sought, sought_in};
 
 use crate::graph::Graph;
@@ -132,4 +133,21 @@ pub(crate) fn find_node(graph: &Graph, code: u32, sought: Sought) -> Option<u32>
         }
     }
     None
+}
+
+// The `in` of a place in a block.
+pub(crate) fn find_enter(graph: &Graph, code: u32, block: u32, place: u32) -> Option<u32>
+    ensures { option_to_list result ≡ node_in (code_of graph.now code) block (is_enter place) }
+{
+    find_node(graph, code, Sought::Enter { block, place })
+}
+
+// The merge of a place of the cond that opens a block.
+pub(crate) fn find_merge(graph: &Graph, code: u32, block: u32, place: u32) -> Option<u32>
+    ensures { option_to_list result ≡ merges_of (code_of graph.now code) place (owner_of (code_of graph.now code) block) }
+{
+    match owner_of(graph, code, block) {
+        Some(cond) => find_node(graph, code, Sought::Merge { cond, place }),
+        None => None,
+    }
 }

@@ -1,5 +1,5 @@
 // What a firing changes.
-ghost use Rattle.std.specs.Prelude.{ℕ, ◌≡◌, [], ◌∷◌, ◌++◌, OnOk, option_to_list};
+ghost use Rattle.std.specs.Prelude.{ℕ, ◌≡◌, [], ◌∷◌, ◌++◌, length, OnOk, option_to_list};
 ghost use Rattle.tam_word.specs.Lists.{changed_at};
 ghost use Rattle.tam_graph.specs.Graphs.{Graph};
 ghost use Rattle.tam_flow.specs.Worlds.{with_word, with_block, got, all_got, entered, changes, sends_only};
@@ -12,8 +12,9 @@ use tam_edge::NoMemory;
 use tam_msgs::Message;
 
 // A node of an activation gets a word.
-fn put_word(activations: &mut [Activation], i: u32, node: u32, word: u32) -> Result<(), NoMemory>
-    ensures { OnOk result (activations_of activations.new ≡ changed_at i (with_word node word) (activations_of activations.old)) }
+fn put_word(activations: &mut Vec<Activation>, i: u32, node: u32, word: u32) -> Result<(), NoMemory>
+    ensures value { OnOk result (activations_of activations.new.items ≡ changed_at i (with_word node word) (activations_of activations.old.items)) }
+    ensures count { length activations.new.items ≡ length activations.old.items }
 {
     if i as usize >= activations.len() {
         return Ok(());
@@ -23,8 +24,9 @@ fn put_word(activations: &mut [Activation], i: u32, node: u32, word: u32) -> Res
 }
 
 // An activation enters a block.
-fn put_block(activations: &mut [Activation], i: u32, block: u32) -> Result<(), NoMemory>
-    ensures { OnOk result (activations_of activations.new ≡ changed_at i (with_block block) (activations_of activations.old)) }
+fn put_block(activations: &mut Vec<Activation>, i: u32, block: u32) -> Result<(), NoMemory>
+    ensures value { OnOk result (activations_of activations.new.items ≡ changed_at i (with_block block) (activations_of activations.old.items)) }
+    ensures count { length activations.new.items ≡ length activations.old.items }
 {
     if i as usize >= activations.len() {
         return Ok(());
@@ -109,4 +111,15 @@ pub(crate) fn send(machine: &mut Machine, message: Message) -> Result<(), NoMemo
     ensures sizes { sizes_of machine.new ≡ sizes_of machine.old }
 {
     machine.pending.send(message)
+}
+
+// The message, if there is one, is sent.
+pub(crate) fn send_found(machine: &mut Machine, message: Option<Message>) -> Result<(), NoMemory>
+    ensures value { OnOk result ((g : Graph) → state_of machine.new ≡ effected g (state_of machine.old) (sends_only (state_of machine.old).world (option_to_list message))) }
+    ensures sizes { sizes_of machine.new ≡ sizes_of machine.old }
+{
+    match message {
+        Some(message) => send(machine, message),
+        None => Ok(()),
+    }
 }

@@ -1,5 +1,5 @@
 -- The first number below another that passes a test.
-use Rattle.std.proofs.Common.{◌≡◌, ℕ, zero, suc, ◌<◌, Bool, true, false, List, [], ◌∷◌, ◌++◌, refl, ap, sym, subst, ◌∙◌, arith, ◌⊎◌, inl, inr, ⊎_elim}
+use Rattle.std.proofs.Common.{◌≡◌, ℕ, zero, suc, ◌<◌, Bool, true, false, ◌&&◌, List, [], ◌∷◌, ◌++◌, filter, refl, ap, sym, subst, ◌∙◌, arith, ◌⊎◌, inl, inr, ⊎_elim}
 use Rattle.tam_word.specs.Lists.{first_of, below}
 use Rattle.tam_word.proofs.Each.{last-or_before}
 
@@ -37,3 +37,14 @@ first-below_found test k (suc n) none passes inside =
     last e =
         let P : ℕ → Type 0 = λ m. first_of test (below (suc m)) ≡ k ∷ [] in
         subst P e (first_of-behind test (below k) (k ∷ []) none ∙ rw (first_of, passes) refl)
+
+-- the first of those that pass another test
+pub first_of-filter : {X : Type 0} (other test : X → Bool) (xs : List X) → first_of test (filter other xs) ≡ first_of (λ x. other x && test x) xs
+first_of-filter other test [] = refl
+first_of-filter {X} other test (x ∷ xs) = go (other x) refl (test x) refl (first_of-filter other test xs)
+  where
+    go : (s : Bool) → other x ≡ s → (t : Bool) → test x ≡ t → first_of test (filter other xs) ≡ first_of (λ y. other y && test y) xs
+        → first_of test (filter other (x ∷ xs)) ≡ first_of (λ y. other y && test y) (x ∷ xs)
+    go true d true e i = rw (filter, first_of, d, e) refl
+    go true d false e i = rw (filter, first_of, d, e) i
+    go false d t e i = rw (filter, first_of, d) i

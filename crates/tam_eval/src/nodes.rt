@@ -1,7 +1,7 @@
 // Nodes by their numbers and by what they do.
 ghost use Rattle.std.specs.Prelude.{◌≡◌, ◌<◌, ◌≤◌, length, slice_get, OnSome, option_to_list};
 ghost use Rattle.tam_word.specs.Lists.{below, first_of};
-ghost use Rattle.tam_graph.specs.Graphs.{code_of, kind_at, test_of, callee_of, chosen_branch, fires, owner_of, node_in, is_enter};
+ghost use Rattle.tam_graph.specs.Graphs.{code_of, kind_at, block_at, test_of, callee_of, chosen_branch, fires, owner_of, node_in, is_enter};
 ghost use Rattle.tam_flow.specs.Worlds.{merges_of};
 ghost use Rattle.tam_eval.specs.Sought.{is_sought, sought_in};
 
@@ -48,6 +48,16 @@ pub(crate) fn kind_at(graph: &Graph, code: u32, node: u32) -> Kind
     match node_at(graph, code, node) {
         Some(node) => node.kind,
         None => Kind::Enter { place: 0 },
+    }
+}
+
+// The block of a node.
+pub(crate) fn block_at(graph: &Graph, code: u32, node: u32) -> u32
+    ensures { result ≡ block_at (code_of graph.now code) node }
+{
+    match node_at(graph, code, node) {
+        Some(node) => node.block,
+        None => 0,
     }
 }
 

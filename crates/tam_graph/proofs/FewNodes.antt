@@ -68,7 +68,7 @@ all-blocks c xs (suc m) =
     chain a b d p q t h k l e = omega arith
 
 -- where each element passes, all are left
-all-left : (test : ℕ → Bool) (xs : List ℕ) → ((x : ℕ) → In x xs → test x ≡ true) → length (filter test xs) ≡ length xs
+pub all-left : (test : ℕ → Bool) (xs : List ℕ) → ((x : ℕ) → In x xs → test x ≡ true) → length (filter test xs) ≡ length xs
 all-left test [] h = refl
 all-left test (x ∷ xs) h = rw (h x (inl refl)) (ap suc (all-left test xs (λ y m. h y (inr m))))
 

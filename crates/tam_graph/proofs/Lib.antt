@@ -17,3 +17,8 @@ pub mod SameBytes
 pub mod FewNodes
 pub mod FirstPlaces
 pub mod NodeNames
+pub mod LastNodes
+pub mod Indexing
+pub mod Counting
+pub mod CodeNames
+pub mod FewPlaces

@@ -1,5 +1,5 @@
 -- What the visits of a code's lines have in them: nodes, the blocks that conds open, and the visits of branches.
-use Rattle.std.proofs.Common.{◌≡◌, ℕ, zero, suc, ◌<◌, ◌⊎◌, inl, inr, ⊎_elim, List, [], ◌∷◌, ◌++◌, flat_map, Option, Some, None, length, refl, sym, ap, subst, ◌==◌, true}
+use Rattle.std.proofs.Common.{◌≡◌, ℕ, zero, suc, ◌<◌, ◌⊎◌, inl, inr, ⊎_elim, List, [], ◌∷◌, ◌++◌, Option, Some, refl, sym, subst, ◌==◌}
 use Rattle.tam_graph.specs.declared.kind.Kind.{Kind}
 use Rattle.tam_graph.specs.declared.kind.Kind.TheVariants.{Cond}
 use Rattle.tam_graph.specs.Graphs.{Code, kind_at, block_at, nodes_in, node_numbers}

@@ -1,10 +1,16 @@
 -- What contracts see of a run in the evaluator.
-use Rattle.std.specs.Prelude.{ℕ, List, [], ◌∷◌, ◌++◌, map, length, Option, Some, None}
+use Rattle.std.specs.Prelude.{ℕ, List, [], ◌∷◌, ◌++◌, ◌≡◌, ◌+◌, ◌≤◌, map, length, Option, Some, None, Result, Ok, Err}
+use Rattle.tam_msgs.specs.declared.item.Item.{Item}
+use Rattle.tam_msgs.specs.declared.step.Step.{Step}
+use Rattle.tam_msgs.specs.declared.step.Step.TheVariants.{Ran, Delivered, Printed, Quiet as Step_quiet}
+use Rattle.tam_msgs.specs.declared.stop.Stop.{Stop}
+use Rattle.tam_msgs.specs.declared.stop.Stop.TheVariants.{DoubleWrite, OutOfRange, FramesFull, CellsFull, BudgetSpent, NoMemory}
+use Rattle.tam_msgs.specs.Runs.{Quiet, Double_write, Out_of_range, Frames_full, Cells_full, Budget_spent, Outcome, Next, Ended}
 use Rattle.tam_graph.specs.declared.kind.Kind.{Kind}
 use Rattle.tam_graph.specs.Graphs.{Graph, operands_of}
 use Rattle.tam_msgs.specs.declared.message.Message.{Message}
 use Rattle.tam_flow.specs.Worlds.{World, ActivationState, Effect, changes, its_code, words_of, firing_of}
-use Rattle.tam_eval.specs.GraphRuns.{joins}
+use Rattle.tam_eval.specs.GraphRuns.{GraphState, joins}
 use Rattle.tam_eval.specs.declared.activation.Activation.{Activation}
 use Rattle.tam_eval.specs.declared.machine.Machine.{Machine}
 
@@ -32,7 +38,7 @@ abbrev pub state_of : Machine → EvalState
 state_of m = record {
   world = record { activations = activations_of m.activations.items; arrays = m.cells.arrays; makers = m.makers.items };
   ready = m.ready.items;
-  pending = m.pending;
+  pending = m.pending.messages;
   events = m.events;
 }
 
@@ -65,3 +71,26 @@ two_listed (Some p) = (p.0 ∷ p.1 ∷ []) ∷ []
 abbrev pub three_listed : Option (ℕ × ℕ × ℕ) → List (List ℕ)
 three_listed None = []
 three_listed (Some p) = (p.0 ∷ p.1 ∷ p.2 ∷ []) ∷ []
+
+-- with the order list and what was printed, which the caller keeps
+abbrev pub state_with : EvalState → List Item → List (ℕ × ℕ) → GraphState
+state_with s order printed = record { world = s.world; ready = s.ready; pending = s.pending; order = order; printed = printed; events = s.events }
+
+-- the answer is what comes of an event: the state behind it and what it printed, or how the run ended; a want of memory says nothing
+abbrev pub IsOutcome : Outcome GraphState → EvalState → List Item → List (ℕ × ℕ) → Result Step Stop → Type 0
+IsOutcome outcome s order printed (Ok Ran) = outcome ≡ Next (state_with s order printed)
+IsOutcome outcome s order printed (Ok Delivered) = outcome ≡ Next (state_with s order printed)
+IsOutcome outcome s order printed (Ok (Printed k w)) = outcome ≡ Next (state_with s order (printed ++ (k, w) ∷ []))
+IsOutcome outcome s order printed (Ok Step_quiet) = outcome ≡ Ended Quiet (state_with s order printed)
+IsOutcome outcome s order printed (Err (DoubleWrite first second)) = outcome ≡ Ended (Double_write first second) (state_with s order printed)
+IsOutcome outcome s order printed (Err (OutOfRange a i n)) = outcome ≡ Ended (Out_of_range a i n) (state_with s order printed)
+IsOutcome outcome s order printed (Err (FramesFull n)) = outcome ≡ Ended (Frames_full n) (state_with s order printed)
+IsOutcome outcome s order printed (Err (CellsFull used n)) = outcome ≡ Ended (Cells_full used n) (state_with s order printed)
+IsOutcome outcome s order printed (Err (BudgetSpent n)) = outcome ≡ Ended (Budget_spent n) (state_with s order printed)
+IsOutcome outcome s order printed (Err NoMemory) = Unit {0}
+
+-- there are at most so many activations and arrays more, and the limit of the cells is as before
+pub record Grows (old new : Machine) (activations arrays : ℕ) : Type 0 where
+  pub few_activations : length new.activations.items ≤ length old.activations.items + activations
+  pub few_arrays : length new.cells.arrays ≤ length old.cells.arrays + arrays
+  pub limit_kept : new.cells.limit ≡ old.cells.limit

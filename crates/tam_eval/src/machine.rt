@@ -7,14 +7,13 @@ ghost use Rattle.tam_eval.specs.GraphRuns.{is_enabled};
 ghost use Rattle.tam_eval.specs.Eval.{world_with, activations_of, state_of};
 
 use crate::activation::Activation;
-use crate::graph::Graph;
 use crate::nodes::{fires, node_at, test_of};
-use crate::pending::Pending;
 use std::alloc::Global;
 use std::collections::VecDeque;
 use tam_edge::NoMemory;
-use tam_graph::Kind;
+use tam_graph::{Graph, Kind};
 use tam_istr::Cells;
+use tam_msgs::Pending;
 
 /// What changes in a run.
 #[derive(Drop)]

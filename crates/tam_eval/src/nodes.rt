@@ -5,8 +5,7 @@ ghost use Rattle.tam_graph.specs.Graphs.{code_of, kind_at, block_at, test_of, ca
 ghost use Rattle.tam_flow.specs.Worlds.{merges_of};
 ghost use Rattle.tam_eval.specs.Sought.{is_sought, sought_in};
 
-use crate::graph::Graph;
-use tam_graph::{Kind, Node};
+use tam_graph::{Graph, Kind, Node};
 
 /// What node is looked for, by what it does.
 #[derive(Clone, Copy)]

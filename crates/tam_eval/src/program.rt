@@ -4,11 +4,11 @@ ghost use Rattle.tam_graph.specs.Graphs.{code_of};
 ghost use Rattle.tam_eval.specs.Takers.{takers_of, firers_in, starters_of};
 ghost use Rattle.tam_eval.specs.Tables.{AreTables, takers_kept};
 
-use crate::graph::Graph;
 use crate::table::{Table, list_at};
 use std::alloc::Global;
 use std::marker::Model;
 use tam_edge::NoMemory;
+use tam_graph::Graph;
 
 /// A graph, and for each of its codes the vertices that an event may make ready.
 #[derive(Drop)]

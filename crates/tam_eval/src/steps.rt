@@ -110,7 +110,10 @@ pub(crate) fn send(machine: &mut Machine, message: Message) -> Result<(), NoMemo
     ensures value { OnOk result ((g : Graph) → state_of machine.new ≡ effected g (state_of machine.old) (sends_only (state_of machine.old).world (message ∷ []))) }
     ensures sizes { sizes_of machine.new ≡ sizes_of machine.old }
 {
-    machine.pending.send(message)
+    if machine.pending.send(message).is_err() {
+        return Err(NoMemory);
+    }
+    Ok(())
 }
 
 // The message, if there is one, is sent.

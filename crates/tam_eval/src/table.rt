@@ -5,11 +5,10 @@ ghost use Rattle.tam_graph.specs.Graphs.{code_of, kind_at, operands_of, fires};
 ghost use Rattle.tam_eval.specs.Takers.{is_none};
 ghost use Rattle.tam_eval.specs.Tables.{listed, IsTableOf};
 
-use crate::graph::Graph;
 use crate::nodes::{fires, kind_at, nodes_of, test_of};
 use std::alloc::Global;
 use tam_edge::NoMemory;
-use tam_graph::{Kind, Node};
+use tam_graph::{Graph, Kind, Node};
 
 /// Which vertices of a code an event may make ready, each list rising.
 #[derive(Drop)]

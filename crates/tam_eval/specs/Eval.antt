@@ -1,6 +1,7 @@
 -- What contracts see of a run in the evaluator.
 use Rattle.std.specs.Prelude.{ℕ, List, [], ◌∷◌, ◌++◌, ◌≡◌, ◌+◌, ◌≤◌, map, length, Option, Some, None, Result, Ok, Err}
 use Rattle.tam_msgs.specs.declared.item.Item.{Item}
+use Rattle.tam_msgs.specs.declared.limits.Limits.{Limits}
 use Rattle.tam_msgs.specs.declared.step.Step.{Step}
 use Rattle.tam_msgs.specs.declared.step.Step.TheVariants.{Ran, Delivered, Printed, Quiet as Step_quiet}
 use Rattle.tam_msgs.specs.declared.stop.Stop.{Stop}
@@ -9,7 +10,7 @@ use Rattle.tam_msgs.specs.Runs.{Quiet, Double_write, Out_of_range, Frames_full, 
 use Rattle.tam_graph.specs.declared.kind.Kind.{Kind}
 use Rattle.tam_graph.specs.Graphs.{Graph, operands_of}
 use Rattle.tam_msgs.specs.declared.message.Message.{Message}
-use Rattle.tam_flow.specs.Worlds.{World, ActivationState, Effect, changes, its_code, words_of, firing_of}
+use Rattle.tam_flow.specs.Worlds.{World, ActivationState, Effect, begun, changes, its_code, words_of, firing_of}
 use Rattle.tam_eval.specs.GraphRuns.{GraphState, joins}
 use Rattle.tam_eval.specs.declared.activation.Activation.{Activation}
 use Rattle.tam_eval.specs.declared.machine.Machine.{Machine}
@@ -55,9 +56,9 @@ effect_with g w i x kind (vs ∷ more) = firing_of g w i x kind vs
 abbrev pub fired_as : Graph → World → ℕ → ℕ → Kind → Effect
 fired_as g w i x kind = effect_with g w i x kind (words_of w i (operands_of (its_code g w i) kind))
 
--- how many activations and arrays there are, and how many cells there may be
-abbrev pub sizes_of : Machine → ℕ × ℕ × ℕ
-sizes_of m = (length m.activations.items, length m.cells.arrays, m.cells.limit)
+-- how many activations and arrays there are, how many cells there may be, and how many events there were
+abbrev pub sizes_of : Machine → ℕ × ℕ × ℕ × ℕ
+sizes_of m = (length m.activations.items, length m.cells.arrays, m.cells.limit, m.events)
 
 -- one word, two or three, as a list of at most one list
 abbrev pub one_listed : Option ℕ → List (List ℕ)
@@ -94,3 +95,22 @@ pub record Grows (old new : Machine) (activations arrays : ℕ) : Type 0 where
   pub few_activations : length new.activations.items ≤ length old.activations.items + activations
   pub few_arrays : length new.cells.arrays ≤ length old.cells.arrays + arrays
   pub limit_kept : new.cells.limit ≡ old.cells.limit
+  pub events_kept : new.events ≡ old.events
+
+-- the run is within its limits
+pub record IsWithinLimits (m : Machine) (limits : Limits) : Type 0 where
+  pub frames : length m.activations.items ≤ limits.frames
+  pub arrays : length m.cells.arrays ≤ m.events
+  pub events : m.events ≤ limits.budget
+  pub cells : m.cells.limit ≡ limits.cells
+
+-- after an event the run is within its limits, where one array more at most was made
+pub record Fits (old new : Machine) (limits : Limits) : Type 0 where
+  pub frames : length new.activations.items ≤ limits.frames
+  pub few_arrays : length new.cells.arrays ≤ length old.cells.arrays + 1
+  pub limit_kept : new.cells.limit ≡ old.cells.limit
+  pub events_kept : new.events ≡ old.events
+
+-- the world with an activation more
+abbrev pub with_begun : World → ℕ → ℕ → ℕ → World
+with_begun w k f x = record w { activations = w.activations ++ begun k f x ∷ [] }

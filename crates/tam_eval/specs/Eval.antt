@@ -1,5 +1,5 @@
 -- What contracts see of a run in the evaluator.
-use Rattle.std.specs.Prelude.{ℕ, List, [], ◌∷◌, ◌++◌, ◌≡◌, ◌+◌, ◌≤◌, map, length, Option, Some, None, Result, Ok, Err}
+use Rattle.std.specs.Prelude.{ℕ, List, [], ◌∷◌, ◌++◌, ◌≡◌, ◌+◌, ◌≤◌, map, flat_map, zip, length, Option, Some, None, Result, Ok, Err}
 use Rattle.tam_msgs.specs.declared.item.Item.{Item}
 use Rattle.tam_msgs.specs.declared.limits.Limits.{Limits}
 use Rattle.tam_msgs.specs.declared.step.Step.{Step}
@@ -7,11 +7,12 @@ use Rattle.tam_msgs.specs.declared.step.Step.TheVariants.{Ran, Delivered, Printe
 use Rattle.tam_msgs.specs.declared.stop.Stop.{Stop}
 use Rattle.tam_msgs.specs.declared.stop.Stop.TheVariants.{DoubleWrite, OutOfRange, FramesFull, CellsFull, BudgetSpent, NoMemory}
 use Rattle.tam_msgs.specs.Runs.{Quiet, Double_write, Out_of_range, Frames_full, Cells_full, Budget_spent, Outcome, Next, Ended}
+use Rattle.tam_word.specs.Lists.{below}
 use Rattle.tam_graph.specs.declared.kind.Kind.{Kind}
 use Rattle.tam_graph.specs.Graphs.{Graph, operands_of}
 use Rattle.tam_msgs.specs.declared.message.Message.{Message}
-use Rattle.tam_flow.specs.Worlds.{World, ActivationState, Effect, begun, changes, its_code, words_of, firing_of}
-use Rattle.tam_eval.specs.GraphRuns.{GraphState, joins}
+use Rattle.tam_flow.specs.Worlds.{World, ActivationState, Effect, begun, changes, its_code, words_of, firing_of, opening, argument_message}
+use Rattle.tam_eval.specs.GraphRuns.{GraphState, joins, nothing_begun, graph_step}
 use Rattle.tam_eval.specs.declared.activation.Activation.{Activation}
 use Rattle.tam_eval.specs.declared.machine.Machine.{Machine}
 
@@ -114,3 +115,51 @@ pub record Fits (old new : Machine) (limits : Limits) : Type 0 where
 -- the world with an activation more
 abbrev pub with_begun : World → ℕ → ℕ → ℕ → World
 with_begun w k f x = record w { activations = w.activations ++ begun k f x ∷ [] }
+
+-- where the run is quiet, nothing changed
+abbrev pub LeavesAtQuiet : EvalState → EvalState → List Item → List Item → Result Step Stop → Type 0
+LeavesAtQuiet old new order order' (Ok Step_quiet) = (new ≡ old) × (order' ≡ order)
+LeavesAtQuiet old new order order' (Ok Ran) = Unit {0}
+LeavesAtQuiet old new order order' (Ok Delivered) = Unit {0}
+LeavesAtQuiet old new order order' (Ok (Printed k w)) = Unit {0}
+LeavesAtQuiet old new order order' (Err stop) = Unit {0}
+
+-- the answer isn't that the run is quiet
+abbrev pub IsNotQuiet : Result Step Stop → Type 0
+IsNotQuiet (Ok Step_quiet) = ⊥
+IsNotQuiet (Ok Ran) = Unit {0}
+IsNotQuiet (Ok Delivered) = Unit {0}
+IsNotQuiet (Ok (Printed k w)) = Unit {0}
+IsNotQuiet (Err stop) = Unit {0}
+
+-- the state before the first event: the root has begun, and the arguments are pending
+abbrev pub opening_state : Graph → List ℕ → EvalState
+opening_state g args = record {
+  world = opening g;
+  ready = joins g nothing_begun (opening g);
+  pending = flat_map (argument_message g) (zip (below (length args)) args);
+  events = 0;
+}
+
+-- what contracts see of a run: its graph and limits, its state, and the stop that was answered, if one was
+pub record EvalRun : Type 0 where
+  pub graph : Graph
+  pub limits : Limits
+  pub state : EvalState
+  pub stopped : Option Stop
+
+-- the stop that an answer names
+abbrev pub stop_of : Result Step Stop → Option Stop
+stop_of (Ok step) = None
+stop_of (Err stop) = Some stop
+
+-- what one call answers: one event, or where the run was stopped before, the same stop once more
+abbrev pub IsEvent : EvalRun → EvalRun → List Item → List Item → Result Step Stop → Option Stop → Type 0
+IsEvent old new order order' result (Some stop) = (result ≡ Err stop) × (new ≡ old) × (order' ≡ order)
+IsEvent old new order order' result None =
+    ((printed : List (ℕ × ℕ)) → IsOutcome (graph_step old.graph old.limits (state_with old.state order printed)) new.state order' printed result)
+    × (new.stopped ≡ stop_of result) × LeavesAtQuiet old.state new.state order order' result
+
+-- an event more, and else the same sizes
+abbrev pub CountsEvent : Machine → Machine → Type 0
+CountsEvent old new = sizes_of new ≡ (length old.activations.items, length old.cells.arrays, old.cells.limit, old.events + 1)

@@ -1,5 +1,5 @@
 -- What a step does, by what was chosen.
-use Rattle.std.proofs.Common.{◌≡◌, ℕ, zero, suc, Bool, true, false, not, ◌==◌, List, [], ◌∷◌, length, refl, ap, arith, Result, Ok, Err}
+use Rattle.std.proofs.Common.{◌≡◌, ℕ, zero, suc, Bool, true, false, not, ◌==◌, List, [], ◌∷◌, length, refl, ap, arith, sym, subst, None, Result, Ok, Err}
 use Rattle.std.specs.Prelude.{slice_get}
 use Rattle.tam_word.proofs.Tests.{differs-number}
 use Rattle.tam_msgs.specs.declared.limits.Limits.{Limits}
@@ -11,7 +11,7 @@ use Rattle.tam_msgs.specs.declared.choice.Choice.TheVariants.{Run as Choose_run,
 use Rattle.tam_msgs.specs.Runs.{choice}
 use Rattle.tam_graph.specs.Graphs.{Graph}
 use Rattle.tam_eval.specs.GraphRuns.{some_ready, chosen, counted, fired_first, delivered_at, graph_step}
-use Rattle.tam_eval.specs.Eval.{EvalState, state_with, IsNotQuiet, LeavesAtQuiet}
+use Rattle.tam_eval.specs.Eval.{EvalState, EvalRun, state_with, IsOutcome, IsNotQuiet, LeavesAtQuiet, IsEvent, stop_of}
 
 -- something is ready where the list isn't empty
 pub ready-test : (xs : List (ℕ × ℕ)) → not (length xs == 0) ≡ some_ready xs
@@ -36,3 +36,11 @@ goes-on old new order order' (Ok Ran) goes = tt
 goes-on old new order order' (Ok Delivered) goes = tt
 goes-on old new order order' (Ok (Printed k w)) goes = tt
 goes-on old new order order' (Err stop) goes = tt
+
+-- one event of a run that wasn't stopped
+pub first-event : (run old new : EvalRun) (order order' : List Item) (result : Result Step Stop) → run ≡ old → run.stopped ≡ None
+    → ((printed : List (ℕ × ℕ)) → IsOutcome (graph_step run.graph run.limits (state_with run.state order printed)) new.state order' printed result)
+    → new.stopped ≡ stop_of result → LeavesAtQuiet run.state new.state order order' result → IsEvent old new order order' result old.stopped
+first-event run old new order order' result is unstopped outcome stop quiet =
+    subst (λ (r : EvalRun). IsEvent r new order order' result r.stopped) is
+    (subst (IsEvent run new order order' result) (sym unstopped) (outcome, stop, quiet))

@@ -1,0 +1,81 @@
+// One event.
+ghost use Rattle.std.specs.Prelude.{ℕ, List, ◌≡◌, ◌+◌, ◌-◌, ◌<◌, ◌≤◌, ◌^◌, length, slice_get};
+ghost use Rattle.tam_msgs.specs.Messages.{AreLimits};
+ghost use Rattle.tam_msgs.specs.declared.item.Item.{Item};
+ghost use Rattle.tam_eval.specs.GraphRuns.{fired_first, delivered_at, counted, graph_step};
+ghost use Rattle.tam_eval.specs.Eval.{state_of, state_with, CountsEvent, IsOutcome, IsNotQuiet, IsWithinLimits, LeavesAtQuiet};
+
+use crate::delivering::deliver;
+use crate::firing::fire;
+use crate::machine::Machine;
+use crate::program::Program;
+use tam_edge::NoMemory;
+use tam_msgs::{Choice, Limits, Order, Step, Stop};
+
+// The vertex that became ready first fires.
+fn run_first(program: &Program<'_>, machine: &mut Machine) -> Result<Step, Stop>
+    requires ready { 0 < length machine.old.ready.items }
+    requires events { machine.old.events < 2 ^ 32 - 1 }
+    ensures outcome { (order before : List Item) (printed : List (ℕ × ℕ)) → IsOutcome (fired_first program.now (counted (state_with (state_of machine.old) before printed) order) (state_of machine.old).ready) (state_of machine.new) order printed result }
+    ensures sizes { CountsEvent machine.old machine.new }
+    ensures goes { IsNotQuiet result }
+{
+    let Some((i, x)) = machine.ready.pop_front() else {
+        unreachable!();
+    };
+    machine.events += 1;
+    match fire(program, machine, i, x) {
+        Ok(()) => Ok(Step::Ran),
+        Err(NoMemory) => Err(Stop::NoMemory),
+    }
+}
+
+// The message at a place is delivered.
+fn deliver_at(
+    program: &Program<'_>,
+    machine: &mut Machine,
+    limits: &Limits,
+    place: u32,
+) -> Result<Step, Stop>
+    requires limits { AreLimits limits.now }
+    requires within { IsWithinLimits machine.old limits.now }
+    requires place { place < length machine.old.pending.messages }
+    requires events { machine.old.events < limits.now.budget }
+    ensures outcome { (order before : List Item) (printed : List (ℕ × ℕ)) → IsOutcome (delivered_at program.now limits.now (counted (state_with (state_of machine.old) before printed) order) place (slice_get (state_of machine.old).pending place)) (state_of machine.new) order printed result }
+    ensures within { IsWithinLimits machine.new limits.now }
+    ensures goes { IsNotQuiet result }
+{
+    let message = machine.pending.take(place);
+    machine.events += 1;
+    deliver(program, machine, limits, message)
+}
+
+// What comes next is done, unless nothing is left to do or the budget is spent.
+pub(crate) fn advance(
+    program: &Program<'_>,
+    machine: &mut Machine,
+    limits: &Limits,
+    order: &mut Order,
+) -> Result<Step, Stop>
+    requires limits { AreLimits limits.now }
+    requires within { IsWithinLimits machine.old limits.now }
+    ensures outcome { (printed : List (ℕ × ℕ)) → IsOutcome (graph_step program.now limits.now (state_with (state_of machine.old) order.old printed)) (state_of machine.new) order.new printed result }
+    ensures quiet { LeavesAtQuiet (state_of machine.old) (state_of machine.new) order.old order.new result }
+    ensures within { IsWithinLimits machine.new limits.now }
+{
+    let ready = !machine.ready.is_empty();
+    let pending = machine.pending.len();
+    if !ready && pending == 0 {
+        return Ok(Step::Quiet);
+    }
+    if machine.events == limits.budget {
+        return Err(Stop::BudgetSpent {
+            events: machine.events,
+        });
+    }
+    match order.choose(ready, pending) {
+        Choice::Run => run_first(program, machine),
+        Choice::Deliver(place) => deliver_at(program, machine, limits, place),
+        Choice::Quiet => unreachable!(),
+    }
+}

@@ -16,7 +16,7 @@ use Rattle.tam_flow.proofs.Moves.{JustNone, Fits, param-where}
 use Rattle.tam_eval.specs.GraphRuns.{joins, nothing_begun, graph_opening}
 use Rattle.tam_eval.proofs.Follows.{RunsStand, Follows, graph_of}
 use Rattle.tam_eval.proofs.KeptBySteps.{Steps, ready-later}
-use Rattle.tam_eval.proofs.Firing.{same-state}
+use Rattle.tam_eval.proofs.FiringSteps.{same-state}
 use Rattle.tam_eval.proofs.WorldSizes.{Few}
 use Rattle.tam_eval.proofs.DeliverySends.{Answered}
 use Rattle.tam_eval.proofs.Charges.{Charge, asks, asks-none}

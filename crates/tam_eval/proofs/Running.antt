@@ -25,8 +25,8 @@ use Rattle.tam_eval.proofs.Follows.{Follows, graph_of}
 use Rattle.tam_eval.proofs.Charges.{Charge, Charged, charge-charged, charged-same}
 use Rattle.tam_eval.proofs.WorldSizes.{Few, fired-size, SizedAfter, delivered-sized}
 use Rattle.tam_eval.proofs.StepsCaughtUp.{GoesOn, AllReached, goes-then, reached-on}
-use Rattle.tam_eval.proofs.Firing.{GoesTo, firing-goes, some-may as fire_may}
-use Rattle.tam_eval.proofs.Delivering.{DeliveryGoes, delivery-goes, FewAfter, taken, some-may as come_may}
+use Rattle.tam_eval.proofs.FiringSteps.{GoesTo, firing-goes, some-may as fire_may}
+use Rattle.tam_eval.proofs.DeliverySteps.{DeliveryGoes, delivery-goes, FewAfter, taken, some-may as come_may}
 use Rattle.tam_word.proofs.Members.{get-in}
 use Rattle.tam_flow.proofs.DeliveryChanges.{arrays-fired}
 

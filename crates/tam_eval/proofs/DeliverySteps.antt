@@ -22,7 +22,7 @@ use Rattle.tam_eval.specs.GraphRuns.{GraphState, joins, after_effect}
 use Rattle.tam_eval.proofs.Follows.{MessagesFit, Follows}
 use Rattle.tam_eval.proofs.KeptBySteps.{runs-later, ready-later}
 use Rattle.tam_eval.proofs.StepsCaughtUp.{GoesOn, AllReached, reached-placed, goes-then, reached-on, reached-now, steps-then, caught-way, caught-messages}
-use Rattle.tam_eval.proofs.Firing.{GoesTo, same-state, longer}
+use Rattle.tam_eval.proofs.FiringSteps.{GoesTo, same-state, longer}
 use Rattle.tam_eval.proofs.DeliverySends.{FitsAfter, delivery-fits, answered-fits}
 use Rattle.tam_eval.proofs.WorldSizes.{Few}
 use Rattle.tam_flow.proofs.ActivationLists.{has-word}

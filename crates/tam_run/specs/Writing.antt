@@ -6,7 +6,7 @@ use Rattle.tam_edge.specs.Faults.{CountsFault}
 use Rattle.tam_edge.specs.Whole.{AppendsFront}
 use Rattle.tam_msgs.specs.declared.stop.Stop.{Stop}
 use Rattle.tam_msgs.specs.declared.stop.Stop.TheVariants.{NoMemory}
-use Rattle.tam_msgs.specs.Runs.{Report, End, Quiet, result_line, text_of, missing_of}
+use Rattle.tam_msgs.specs.Runs.{Report, End, Quiet, result_line, last_lines, joined, text_of, missing_of}
 use Rattle.tam_msgs.specs.declared.counts.Counts.{Counts}
 use Rattle.tam_run.specs.declared.outcome.Outcome.{Outcome}
 use Rattle.tam_run.specs.declared.outcome.Outcome.TheVariants as outcome
@@ -50,3 +50,24 @@ abbrev pub CountsPuts : {T : Type 0} → ℕ → ℕ → Result T Broken → Typ
 CountsPuts before now (Ok x) = now ≡ before
 CountsPuts before now (Err broken.NoMemory) = now ≡ before
 CountsPuts before now (Err broken.WriteFault) = CountsFault before now
+
+-- what broke a run off, as its outcome
+abbrev pub outcome_of : Broken → Outcome
+outcome_of broken.NoMemory = outcome.Stopped NoMemory
+outcome_of broken.WriteFault = outcome.WriteFault
+
+-- the last lines were taken whole, or none for want of memory
+abbrev pub FinishesStopped : Report → Option (List ℕ) → Option (List ℕ) → Stop → Type 0
+FinishesStopped r old new NoMemory = new ≡ old
+FinishesStopped r old new stop = Appends old new (joined (last_lines r)) × (Some r.how ≡ end_of_stop stop)
+
+-- by the outcome: the last lines of a run, or none of them for want of memory, or a front of them before a fault
+abbrev pub Finishes : Report → Option (List ℕ) → Option (List ℕ) → Outcome → Type 0
+Finishes r old new (outcome.Quiet missing) = Appends old new (joined (last_lines r)) × (r.how ≡ Quiet) × (missing ≡ length (missing_of r.how r.results r.printed))
+Finishes r old new (outcome.Stopped stop) = FinishesStopped r old new stop
+Finishes r old new outcome.WriteFault = AppendsFront old new (joined (last_lines r))
+
+-- the same of a run that stopped, whatever it printed
+abbrev pub StopsSo : Stop → Counts → Option (List ℕ) → Option (List ℕ) → Outcome → Type 0
+StopsSo stop counts old new result =
+    (how : End) (results : ℕ) (printed : List (ℕ × ℕ)) → end_of_stop stop ≡ Some how → Finishes (told_of printed how results counts) old new result

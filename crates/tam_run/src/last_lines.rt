@@ -12,7 +12,7 @@ use std::alloc::{AllocError, Global};
 use tam_msgs::{Counts, Stop};
 
 /// Whether a result of that place was printed.
-fn is_printed(printed: &[(u32, u32)], place: u32) -> bool
+pub fn is_printed(printed: &[(u32, u32)], place: u32) -> bool
     ensures value { result ≡ any_of (λ pair. pair.0 == place) printed.now }
 {
     let mut rest = printed;

@@ -8,10 +8,9 @@ mod broken;
 mod last_lines;
 mod lines;
 mod outcome;
-mod whole_run;
+mod finishing;
 mod writing;
 
 use broken::Broken;
 
 pub use outcome::Outcome;
-pub use whole_run::run;

@@ -1,5 +1,6 @@
 -- A node of a form is found by its name.
-use Rattle.std.proofs.Common.{◌≡◌, ℕ, zero, suc, ◌+◌, ◌<◌, List, [], ◌∷◌, Bool, true, false, refl, sym, ap, ◌∙◌, subst, arith, true≢false, take, map, slice_get, Some, None, inl, inr}
+use Rattle.std.proofs.Common.{◌≡◌, ℕ, zero, suc, ◌+◌, ◌<◌, List, [], ◌∷◌, Bool, true, false, refl, sym, ap, ◌∙◌, subst, arith, true≢false, take, map, slice_get}
+use Rattle.std.proofs.Common.{Some, None, inl, inr}
 use Rattle.std.specs.Prelude.{Option, is_none}
 use Rattle.tam_word.specs.Lists.{any_of, all_differ, same_bytes}
 use Rattle.tam_word.proofs.Members.{In, in-any}
@@ -29,13 +30,15 @@ name-among (m ∷ nodes) k n bs e h = go m.name refl k e (name-among nodes)
     go (Some cs) p (suc k) q i = rw (given_names, p) (inr (i k n bs q h))
 
 -- where no name is the same as one behind it, so it is behind the first, whose name is none of them
-all-differ-parts : (bs : List ℕ) (names : List (List ℕ)) → all_differ same_bytes (bs ∷ names) ≡ true → (any_of (same_bytes bs) names ≡ false) × (all_differ same_bytes names ≡ true)
+all-differ-parts : (bs : List ℕ) (names : List (List ℕ)) → all_differ same_bytes (bs ∷ names) ≡ true
+    → (any_of (same_bytes bs) names ≡ false) × (all_differ same_bytes names ≡ true)
 all-differ-parts bs names d = go (any_of (same_bytes bs) names) refl
   where
     go : (t : Bool) → any_of (same_bytes bs) names ≡ t → (any_of (same_bytes bs) names ≡ false) × (all_differ same_bytes names ≡ true)
     go true e = absurd (true≢false (sym (rw (all_differ, e) at d)))
     go false e = (e, rw (all_differ, e) at d)
 
+-- the names of the nodes behind the first differ
 differ-behind : (o : Node) (nodes : List Node) → names_differ (o ∷ nodes) ≡ true → names_differ nodes ≡ true
 differ-behind o nodes d = go o.name refl
   where
@@ -43,11 +46,14 @@ differ-behind o nodes d = go o.name refl
     go None e = rw (given_names, e) at d
     go (Some bs) e = (all-differ-parts bs (names_of nodes) (rw (given_names, e) at d)).1
 
-differ-first : (o : Node) (nodes : List Node) (bs : List ℕ) → names_differ (o ∷ nodes) ≡ true → o.name ≡ Some bs → any_of (same_bytes bs) (names_of nodes) ≡ false
+-- and its name is none of them
+differ-first : (o : Node) (nodes : List Node) (bs : List ℕ) → names_differ (o ∷ nodes) ≡ true → o.name ≡ Some bs
+    → any_of (same_bytes bs) (names_of nodes) ≡ false
 differ-first o nodes bs d e = (all-differ-parts bs (names_of nodes) (rw (given_names, e) at d)).0
 
 -- those of two nodes aren't
-names-apart : (nodes : List Node) (j k : ℕ) (m n : Node) (bs cs : List ℕ) → names_differ nodes ≡ true → j < k → slice_get nodes j ≡ Some m → slice_get nodes k ≡ Some n
+names-apart : (nodes : List Node) (j k : ℕ) (m n : Node) (bs cs : List ℕ) → names_differ nodes ≡ true → j < k → slice_get nodes j ≡ Some m
+    → slice_get nodes k ≡ Some n
     → m.name ≡ Some bs → n.name ≡ Some cs → same_bytes bs cs ≡ true → ⊥
 names-apart [] j k m n bs cs d l e f p q s = cc
 names-apart (o ∷ nodes) zero zero m n bs cs d l e f p q s = omega arith
@@ -88,7 +94,8 @@ name-absent n h r = go n.name refl (rw (is_named_right, h) at r)
 pub called-among : (nodes : List Node) (x a : ℕ) (m : Node) → names_differ nodes ≡ true → a < x → slice_get nodes a ≡ Some m → m.name ≡ Some (or_bytes m.name)
     → number_called 0 (or_bytes m.name) (take x nodes) ≡ Some a
 called-among nodes x a m d l e own =
-    called-at 0 (or_bytes m.name) (take x nodes) a m (take-get x nodes a l ∙ e) (ap (is_called (or_bytes m.name)) own ∙ same_self (or_bytes m.name)) none ∙ ap Some (omega arith)
+    called-at 0 (or_bytes m.name) (take x nodes) a m (take-get x nodes a l ∙ e) (ap (is_called (or_bytes m.name)) own ∙ same_self (or_bytes m.name)) none
+    ∙ ap Some (omega arith)
   where
     none : (j : ℕ) (p : Node) → j < a → slice_get (take x nodes) j ≡ Some p → is_called (or_bytes m.name) p.name ≡ false
     none j p b q = go p.name refl
@@ -101,4 +108,5 @@ called-among nodes x a m d l e own =
             apart false g = g
             apart true g =
                 let one : or_bytes m.name ≡ bs = same_equal (or_bytes m.name) bs g in
-                absurd (names-apart nodes j a p m bs (or_bytes m.name) d b (get-take x nodes j p q).1 e f own (subst (λ cs. same_bytes bs cs ≡ true) (sym one) (same_self bs)))
+                absurd (names-apart nodes j a p m bs (or_bytes m.name) d b (get-take x nodes j p q).1 e f own
+                (subst (λ cs. same_bytes bs cs ≡ true) (sym one) (same_self bs)))

@@ -1,5 +1,6 @@
 -- What each node of a form is, by its place.
-use Rattle.std.proofs.Common.{◌≡◌, ℕ, zero, suc, ◌<◌, List, [], ◌∷◌, ◌++◌, Bool, true, false, refl, sym, ap, ◌∙◌, subst, take, Some, None, slice_get, append_assoc, true≢false, ◌==◌}
+use Rattle.std.proofs.Common.{◌≡◌, ℕ, zero, suc, ◌<◌, List, [], ◌∷◌, ◌++◌, Bool, true, false, refl, sym, ap, ◌∙◌, subst, take, Some, None, slice_get}
+use Rattle.std.proofs.Common.{append_assoc, true≢false, ◌==◌}
 use Rattle.std.specs.Prelude.{Option}
 use Rattle.std.proofs.lemmas.List.{append-nil}
 use Rattle.tam_word.proofs.Tests.{number-eq, eq-number, both-true, not-true}
@@ -30,7 +31,8 @@ pub parts-fit : (earlier : List Node) (n : Node) → Fits earlier n → fits ear
 parts-fit earlier n f = rw (eq-number n.depth 0 f.depth, eq-number n.block 0 f.block, f.named, f.kind, f.place) refl
 
 -- each node fits behind the front before it
-pub fit-at : (earlier later : List Node) → fit_behind earlier later ≡ true → (k : ℕ) (n : Node) → slice_get later k ≡ Some n → fits (earlier ++ take k later) n ≡ true
+pub fit-at : (earlier later : List Node) → fit_behind earlier later ≡ true → (k : ℕ) (n : Node) → slice_get later k ≡ Some n
+    → fits (earlier ++ take k later) n ≡ true
 fit-at earlier [] h k n e = absurd (cc)
 fit-at earlier (m ∷ later) h k n e = go (fits earlier m) refl k e (fit-at (earlier ++ m ∷ []) later)
   where
@@ -44,20 +46,24 @@ fit-at earlier (m ∷ later) h k n e = go (fits earlier m) refl k e (fit-at (ear
     go false p k q i = absurd (true≢false (sym (rw (fit_behind, p) at h)))
 
 -- where each does, all do
-pub at-fit : (earlier later : List Node) → ((k : ℕ) (n : Node) → slice_get later k ≡ Some n → fits (earlier ++ take k later) n ≡ true) → fit_behind earlier later ≡ true
+pub at-fit : (earlier later : List Node) → ((k : ℕ) (n : Node) → slice_get later k ≡ Some n → fits (earlier ++ take k later) n ≡ true)
+    → fit_behind earlier later ≡ true
 at-fit earlier [] h = refl
 at-fit earlier (m ∷ later) h =
     let here : fits earlier m ≡ true = subst (λ l. fits l m ≡ true) (append-nil earlier) (h 0 m refl) in
-    rw (fit_behind, here) (at-fit (earlier ++ m ∷ []) later (λ k n e. subst (λ l. fits l n ≡ true) (sym (append_assoc earlier (m ∷ []) (take k later))) (h (suc k) n e)))
+    rw (fit_behind, here)
+    (at-fit (earlier ++ m ∷ []) later (λ k n e. subst (λ l. fits l n ≡ true) (sym (append_assoc earlier (m ∷ []) (take k later))) (h (suc k) n e)))
 
 -- the node at a place, in parts
 pub node-fits : (nodes : List Node) → fit_behind [] nodes ≡ true → (x : ℕ) (n : Node) → slice_get nodes x ≡ Some n → Fits (take x nodes) n
 node-fits nodes h x n e = fits-parts (take x nodes) n (fit-at [] nodes h x n e)
 
 -- a value of a front stands before its end, and at its place is no result
-pub value-at : (nodes : List Node) (x a : ℕ) → has_value_at (take x nodes) a ≡ true → (m : Node) × (slice_get nodes a ≡ Some m) × (a < x) × (gives_value m.kind ≡ true)
+pub value-at : (nodes : List Node) (x a : ℕ) → has_value_at (take x nodes) a ≡ true
+    → (m : Node) × (slice_get nodes a ≡ Some m) × (a < x) × (gives_value m.kind ≡ true)
 value-at nodes x a h = go (slice_get (take x nodes) a) refl h
   where
-    go : (o : Option Node) → slice_get (take x nodes) a ≡ o → or_no_value o ≡ true → (m : Node) × (slice_get nodes a ≡ Some m) × (a < x) × (gives_value m.kind ≡ true)
+    go : (o : Option Node) → slice_get (take x nodes) a ≡ o → or_no_value o ≡ true
+        → (m : Node) × (slice_get nodes a ≡ Some m) × (a < x) × (gives_value m.kind ≡ true)
     go None e t = absurd (true≢false (sym t))
     go (Some m) e t = let r = get-take x nodes a m e in (m, r.1, r.0, t)

@@ -1,5 +1,6 @@
 -- Lists by their places: fronts, maps over the numbers of places, and tests that all pass.
-use Rattle.std.proofs.Common.{◌≡◌, ℕ, zero, suc, ◌+◌, ◌<◌, ◌≤◌, List, [], ◌∷◌, ◌++◌, Bool, true, refl, sym, ap, ◌∙◌, arith, take, length, filter, flat_map, Some, slice_get, inl, inr}
+use Rattle.std.proofs.Common.{◌≡◌, ℕ, zero, suc, ◌+◌, ◌<◌, ◌≤◌, List, [], ◌∷◌, ◌++◌, Bool, true, refl, sym, ap, ◌∙◌, arith, take, length, filter, flat_map}
+use Rattle.std.proofs.Common.{Some, slice_get, inl, inr}
 use Rattle.std.specs.Prelude.{Option, sum_by}
 use Rattle.std.proofs.lemmas.List.Sums.{sum_by-cons, sum_by_push}
 use Rattle.std.proofs.lemmas.Grind.{flat_map-append}
@@ -88,5 +89,6 @@ at-all test xs h = in-all test xs (λ x i. let p = in-get x xs i in h p.0 x p.1)
 pub all-below : (test : ℕ → Bool) (n : ℕ) → ((x : ℕ) → x < n → test x ≡ true) → all_of test (below n) ≡ true
 all-below test n h = in-all test (below n) (λ x i. h x (in-below x n i))
 
+-- and the other way round
 pub below-all : (test : ℕ → Bool) (n : ℕ) → all_of test (below n) ≡ true → (x : ℕ) → x < n → test x ≡ true
 below-all test n h x l = all-in test (below n) h x (below-in x n l)

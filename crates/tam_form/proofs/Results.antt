@@ -41,6 +41,7 @@ module _ (text rest : List ℕ) (behind : rest ≡ drop 15 text) (nodes : List N
   not-none h = let e = h ∙ read-nodes in cc
 
   module _ (found : List Node) (is : Some found ≡ nodes_read 129 [] rest) where
+    -- the nodes that are found are these
     one : found ≡ nodes
     one = let e = is ∙ read-nodes in cc
 
@@ -56,9 +57,12 @@ module _ (text rest : List ℕ) (behind : rest ≡ drop 15 text) (nodes : List N
 printed : (nodes lent : List Node) (again held : List ℕ) → again ≡ text_of lent → lent ≡ nodes → held ≡ again → held ≡ text_of nodes
 printed nodes lent again held is same_nodes same = same ∙ (is ∙ ap text_of same_nodes)
 
-pub text-found : (nodes lent : List Node) (again held text : List ℕ) → again ≡ text_of lent → lent ≡ nodes → held ≡ again → true ≡ same_bytes held text → text_of nodes ≡ text
+-- where the bytes are the same, it is the text
+pub text-found : (nodes lent : List Node) (again held text : List ℕ) → again ≡ text_of lent → lent ≡ nodes → held ≡ again → true ≡ same_bytes held text
+    → text_of nodes ≡ text
 text-found nodes lent again held text is same_nodes same h = sym (printed nodes lent again held is same_nodes same) ∙ same_equal held text (sym h)
 
+-- where they aren't, it isn't
 pub text-differs : (nodes lent : List Node) (again held text : List ℕ) → again ≡ text_of lent → lent ≡ nodes → held ≡ again → false ≡ same_bytes held text
     → same_bytes (text_of nodes) text ≡ false
 text-differs nodes lent again held text is same_nodes same h = ap (λ t. same_bytes t text) (sym (printed nodes lent again held is same_nodes same)) ∙ sym h
@@ -98,7 +102,8 @@ pub graph-accepted : (nodes : List Node) (g : Graph) → is_form nodes ≡ true 
 graph-accepted nodes g h is = subst IsAccepted (sym is) (form-accepted nodes (form-parts nodes h))
 
 -- built, and has the text
-pub graph-built : (text : List ℕ) (nodes : List Node) (g : Graph) → is_form nodes ≡ true → text_of nodes ≡ text → g ≡ main_graph nodes → (canonical g ≡ text) × IsBuilt g
+pub graph-built : (text : List ℕ) (nodes : List Node) (g : Graph) → is_form nodes ≡ true → text_of nodes ≡ text → g ≡ main_graph nodes
+    → (canonical g ≡ text) × IsBuilt g
 graph-built text nodes g h same is =
     let form = form-parts nodes h in
     (ap canonical is ∙ (canonical-text nodes form.fit ∙ same), subst IsBuilt (sym is) (form-built nodes form))

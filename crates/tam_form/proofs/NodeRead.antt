@@ -68,7 +68,8 @@ pub line-spaced : (nodes earlier : List Node) (name : List ℕ) (k : Kind) → k
     → line_of nodes name k ≡ spaced (first_word name k) (rest_words nodes k) ++ 10 ∷ []
 line-spaced nodes earlier name (Param k) h = number-words name (codes " = param ") (signed_text k) (codes "\n")
 line-spaced nodes earlier name (Const w) h = number-words name (codes " = const ") (signed_text w) (codes "\n")
-line-spaced nodes earlier name (Operate o a b) h = operator-words name (codes " = ") (op_name o) (codes " ") (name_at nodes a) (codes " ") (name_at nodes b) (codes "\n")
+line-spaced nodes earlier name (Operate o a b) h =
+    operator-words name (codes " = ") (op_name o) (codes " ") (name_at nodes a) (codes " ") (name_at nodes b) (codes "\n")
 line-spaced nodes earlier name (Seq a b) h = seq-words name (codes " = seq ") (name_at nodes a) (codes " ") (name_at nodes b) (codes "\n")
 line-spaced nodes earlier name (Give k a) h = result-words (codes "result ") (signed_text k) (codes " ") (name_at nodes a) (codes "\n")
 line-spaced nodes earlier name k h = absurd (true≢false (sym h))

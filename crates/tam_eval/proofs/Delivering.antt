@@ -1,6 +1,6 @@
 -- The delivery of the message at a place is the delivery of its number, followed by the runs of the inlets that are due.
 use Rattle.std.proofs.Common.{◌≡◌, ℕ, zero, suc, ◌+◌, ◌<◌, Bool, true, false, not, nat_lt, List, [], ◌∷◌, ◌++◌, refl, sym, subst, ap, inl, inr, ◌⊎◌}
-use Rattle.std.proofs.Common.{◌∙◌, ◌==◌, true≢false, length, slice_get, Some, None, Option, is_none, arith}
+use Rattle.std.proofs.Common.{◌∙◌, ◌==◌, true≢false, length, slice_get, Some, Option, is_none, arith}
 use Rattle.std.proofs.lemmas.Option.{slice_get_within}
 use Rattle.tam_word.specs.Lists.{any_of, has, without_place}
 use Rattle.tam_word.proofs.Tests.{true-both, number-eq, eq-number}
@@ -14,19 +14,21 @@ use Rattle.tam_msgs.specs.declared.item.Item.{Item}
 use Rattle.tam_flow.specs.Worlds.{World, Effect, Delivery, Went, Printed, Faulted, Fault, activation_at, has_word, delivered, changes, got}
 use Rattle.tam_flow.specs.Journals.{State, Event, Deliver, has_run, on_their_way, is_legal_from, may_follow, may_arrive, after_delivery}
 use Rattle.tam_flow.specs.Journals.{deliver_all, or_message}
-use Rattle.tam_flow.proofs.SingleRuns.{below-test}
+use Rattle.tam_word.proofs.Tests.{below-test}
 use Rattle.tam_flow.proofs.OnTheWay.{way_from, way-is, way-sent, AtPlace, at-place}
 use Rattle.tam_flow.proofs.CatchUp.{all-caught}
 use Rattle.tam_flow.proofs.Moves.{Moves, JustNone, Left, left-delivered, Fits, fits-later, for-later, moves-none, IsForInlet}
 use Rattle.tam_eval.specs.GraphRuns.{GraphState, joins, after_effect}
 use Rattle.tam_eval.proofs.Follows.{MessagesFit, Follows}
-use Rattle.tam_eval.proofs.Steps.{runs-later, ready-later}
-use Rattle.tam_eval.proofs.Caught.{GoesOn, AllReached, reached-placed, goes-then, reached-on, reached-now, steps-then, caught-way, caught-messages}
+use Rattle.tam_eval.proofs.KeptBySteps.{runs-later, ready-later}
+use Rattle.tam_eval.proofs.StepsCaughtUp.{GoesOn, AllReached, reached-placed, goes-then, reached-on, reached-now, steps-then, caught-way, caught-messages}
 use Rattle.tam_eval.proofs.Firing.{GoesTo, same-state, longer}
-use Rattle.tam_eval.proofs.Answers.{FitsAfter, delivery-fits, answered-fits}
-use Rattle.tam_eval.proofs.Sizes.{Few}
-use Rattle.tam_eval.proofs.Gives.{some-word, got-has}
+use Rattle.tam_eval.proofs.DeliverySends.{FitsAfter, delivery-fits, answered-fits}
+use Rattle.tam_eval.proofs.WorldSizes.{Few}
+use Rattle.tam_flow.proofs.ActivationLists.{has-word}
+use Rattle.tam_eval.proofs.FiringGives.{got-has}
 use Rattle.tam_eval.proofs.Charges.{Charge, HasReceived, is_asking, asks-none, charge-word, charge-ask}
+use Rattle.tam_word.proofs.Members.{get-in}
 
 -- what is left of a list was in it
 pub in-without : {X : Type 0} (k : ℕ) (xs : List X) (x : X) → In x (without_place k xs) → In x xs
@@ -75,18 +77,6 @@ printed-asks w (Begin c f x) p v e = refl
 printed-asks w (Make n f x) p v e = refl
 printed-asks w (Ask_cell a j f x t) p v e = refl
 printed-asks w (Put_cell a j u t) p v e = refl
-
--- what stands at a place is an element
-pub get-in : {X : Type 0} (xs : List X) (k : ℕ) (x : X) → slice_get xs k ≡ Some x → In x xs
-get-in [] k x h = absurd (none h)
-  where
-    none : {Z : Type 0} {z : Z} → None ≡ Some z → ⊥
-    none e = cc
-get-in (y ∷ xs) zero x h = inl (some h)
-  where
-    some : {Z : Type 0} {a b : Z} → Some a ≡ Some b → a ≡ b
-    some e = cc
-get-in (y ∷ xs) (suc k) x h = inr (get-in xs k x h)
 
 -- the graph's state once the message is taken out
 abbrev pub taken : State → List (ℕ × ℕ) → List Item → ℕ → ℕ → GraphState
@@ -187,7 +177,7 @@ module _ (g : Graph) (args : List ℕ) (s : State) (all : AllReached g args s) (
     word-fresh : (f x v : ℕ) → m ≡ Carry f x v → (f ≡ outside → ⊥) → HasReceived g s f x → ⊥
     word-fresh f x v p n h =
         let q = (reached-now g args s all now).once.not_yet found.number f x v n (was-sent ∙ ap Some p) found.not_yet in
-        let r = some-word (activation_at s.world f).words x h.word in
+        let r = has-word (activation_at s.world f).words x h.word in
         let z : [] ≡ r.0 ∷ [] = sym q ∙ r.1 in absurd cc
 
     -- its charge, in a state with this world
@@ -206,9 +196,12 @@ module _ (g : Graph) (args : List ℕ) (s : State) (all : AllReached g args s) (
             let none : e.sends ≡ [] = ap (λ (z : Effect). z.sends) is_e in
             let wd : t.world ≡ got s.world f x v = w ∙ ap (λ (z : Effect). z.world) is_e in
             charge-word g JustNone s t mv old n k f x
-                (way ∙ (ap (λ l. without_place k (on_their_way s) ++ l) none ∙ none-behind (without_place k (on_their_way s))))
-            (record { inlet = for-later g JustNone s.world t.world mv f x fit; word = subst (λ (z : World). has_word z f x ≡ true) (sym wd)
-                (got-has s.world f x v fit.0) })
+            (way ∙ (ap (λ l. without_place k (on_their_way s) ++ l) none ∙ none-behind (without_place k (on_their_way s))))
+            (record {
+              inlet = for-later g JustNone s.world t.world mv f x fit;
+              word = subst (λ (z : World). has_word z f x ≡ true) (sym wd)
+                  (got-has s.world f x v fit.0);
+            })
             (word-fresh f x v p out) q
 
         carry : (f x v : ℕ) → m ≡ Carry f x v → (b : Bool) → (f == outside) ≡ b → Charge g t (n + 1)
@@ -226,9 +219,9 @@ module _ (g : Graph) (args : List ℕ) (s : State) (all : AllReached g args s) (
     went-goes : (order : List Item) (events : ℕ) → GoesTo g s (after_effect g (taken s ready order events k) e)
     went-goes order events =
         let u = all-caught g after follows.whole (reached-placed g args after (reached-now g args after
-            (reached-on g args s after (Deliver found.number ∷ []) (goes (Went e) is) all) few)) in
+        (reached-on g args s after (Deliver found.number ∷ []) (goes (Went e) is) all) few)) in
         let st = steps-then g JustNone s after u.0 _ follows.runs moves u.1 u.2 (λ j b l h. h) (λ j b l h. inl h) (λ j b l y f h. absurd h)
-            (λ j y h. absurd h) (λ j y h. absurd h) in
+        (λ j y h. absurd h) (λ j y h. absurd h) in
         record {
           state = u.0;
           events = Deliver found.number ∷ u.1.events;
@@ -269,7 +262,7 @@ module _ (g : Graph) (args : List ℕ) (s : State) (all : AllReached g args s) (
     charge = λ n q. charge-ask g JustNone s (record s { printed = s.printed ++ (p, v) ∷ []; arrived = found.number ∷ s.arrived })
         (moves-none g JustNone s.world) (λ i b l h. h) n k m []
         (way-is (record s { printed = s.printed ++ (p, v) ∷ []; arrived = found.number ∷ s.arrived }) ∙
-            (way-left ∙ sym (none-behind (without_place k (on_their_way s)))))
+        (way-left ∙ sym (none-behind (without_place k (on_their_way s)))))
         refl at (printed-asks s.world m p v is) q;
     same = same-state ready order events s.world s.world (without_place k (on_their_way s)) _ (s.printed ++ (p, v) ∷ []) (s.printed ++ (p, v) ∷ []) refl
         (sym (way-is (record s { printed = s.printed ++ (p, v) ∷ []; arrived = found.number ∷ s.arrived }) ∙ way-left)) refl;

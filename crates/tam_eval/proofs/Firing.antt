@@ -19,12 +19,13 @@ use Rattle.tam_flow.proofs.CatchUp.{Placed, all-caught, ran-old, ran-here, ran-n
 use Rattle.tam_flow.proofs.Moves.{Moves, JustOne, Fits, moves-fired, fits-later, for-later}
 use Rattle.tam_eval.specs.GraphRuns.{GraphState, is_enabled, joins, after_effect}
 use Rattle.tam_eval.proofs.Follows.{Enabled, is_enabled-parts, MessagesFit, Follows, graph_of}
-use Rattle.tam_eval.proofs.Steps.{Steps, runs-later, ready-later}
-use Rattle.tam_eval.proofs.Caught.{GoesOn, AllReached, reached-placed, goes-then, reached-on, reached-now, steps-then, caught-way, caught-messages}
-use Rattle.tam_eval.proofs.Sizes.{Few, fired-few}
-use Rattle.tam_eval.proofs.Sends.{sends-fit}
+use Rattle.tam_eval.proofs.KeptBySteps.{Steps, runs-later, ready-later}
+use Rattle.tam_eval.proofs.StepsCaughtUp.{GoesOn, AllReached, reached-placed, goes-then, reached-on, reached-now, steps-then, caught-way, caught-messages}
+use Rattle.tam_eval.proofs.WorldSizes.{Few, fired-few}
+use Rattle.tam_eval.proofs.FiringSends.{sends-fit}
 use Rattle.tam_eval.proofs.Charges.{Charge, HasFired, charge-fired, fired-one}
-use Rattle.tam_eval.proofs.Gives.{fired-gives, fired-arrays}
+use Rattle.tam_eval.proofs.FiringGives.{fired-gives}
+use Rattle.tam_flow.proofs.DeliveryChanges.{arrays-fired}
 
 -- the journal goes on from s to some state that the graph's state after an event follows
 pub record GoesTo (g : Graph) (s : State) (made : GraphState) : Type 0 where
@@ -64,6 +65,7 @@ module _ (g : Graph) (acc : IsAccepted g) (args : List ℕ) (s : State) (all : A
   here : IsThere s.world i × (is_enabled g s.world i x ≡ true)
   here = follows.stands.ready_enabled i x (inl refl)
 
+  -- the node that fires is enabled
   enabled : Enabled g s.world i x
   enabled = is_enabled-parts g s.world i x here.1
 
@@ -91,7 +93,7 @@ module _ (g : Graph) (acc : IsAccepted g) (args : List ℕ) (s : State) (all : A
   pub may : may_follow g (singles g) s (Run i (block_at c x) place.0) ≡ true
   may = true-both (is_none s.fault) (may_run g (singles g) s i (block_at c x) place.0) (ap (λ (o : Option Fault). is_none o) follows.whole)
       (may_run-firer g s i (block_at c x) block-there place.0 x place.1
-          (follows.stands.ready_unrun i x (block_at c x) place.0 (inl refl) place.1) enabled.entered
+      (follows.stands.ready_unrun i x (block_at c x) place.0 (inl refl) place.1) enabled.entered
       (λ d a f m. giver-ran d a f (enabled.words a m)))
 
   -- so some event may
@@ -129,16 +131,19 @@ module _ (g : Graph) (acc : IsAccepted g) (args : List ℕ) (s : State) (all : A
       go : (has_run s j b k ≡ true) ⊎ ((i ≡ j) × (block_at c x ≡ b) × (place.0 ≡ k))
           → (has_run s j b k ≡ true) ⊎ ((y : ℕ) × Firer (its_code g after.world j) b k y × JustOne i x j y)
       go (inl r) = inl r
-      go (inr (e, f, d)) = inr (x,
-          subst (λ z. Firer (its_code g after.world z) b k x) e (subst (λ z. Firer (its_code g after.world i) z k x) f
-          (subst (λ z. Firer (its_code g after.world i) (block_at c x) z x) d
-              (subst (λ z. Firer z (block_at c x) place.0 x) (sym code-same) place.1))), (sym e, refl))
+      go (inr (e, f, d)) = inr (
+        x,
+        subst (λ z. Firer (its_code g after.world z) b k x) e (subst (λ z. Firer (its_code g after.world i) z k x) f
+            (subst (λ z. Firer (its_code g after.world i) (block_at c x) z x) d
+            (subst (λ z. Firer z (block_at c x) place.0 x) (sym code-same) place.1))),
+        (sym e, refl),
+      )
 
   -- and this vertex has
   just-ran : (j b k y : ℕ) → Firer (its_code g after.world j) b k y → JustOne i x j y → has_run after j b k ≡ true
   just-ran j b k y f (e, d) =
       let q : Firer c b k x = subst (λ z. Firer z b k x) code-same
-          (subst (λ z. Firer (its_code g after.world z) b k x) e (subst (Firer (its_code g after.world j) b k) d f)) in
+      (subst (λ z. Firer (its_code g after.world z) b k x) e (subst (Firer (its_code g after.world j) b k) d f)) in
       let p : block_at c x ≡ b = firer-block c b k x q in
       let o : k ≡ place.0 = firer-one c (block_at c x) k place.0 x (subst (λ z. Firer c z k x) (sym p) q) place.1 in
       subst (λ z. has_run after z b k ≡ true) (sym e) (subst (λ z. has_run after i z k ≡ true) p (subst (λ z. has_run after i (block_at c x) z ≡ true) (sym o)
@@ -163,13 +168,13 @@ module _ (g : Graph) (acc : IsAccepted g) (args : List ℕ) (s : State) (all : A
       fits m (inr h) = fits-later g (JustOne i x) s.world after.world moves m (sends-fit g acc args s (reached-now g args s all few) i x here.0 m h)
 
       same-cell : (a j : ℕ) (rs : List Reader) → cell_at after.world a j ≡ Some (Empty rs) → cell_at s.world a j ≡ Some (Empty rs)
-      same-cell a j rs e = subst (λ (w : Arrays). slice_get (unwrap_or (slice_get w a) []) j ≡ Some (Empty rs)) (fired-arrays g s.world i x) e
+      same-cell a j rs e = subst (λ (w : Arrays). slice_get (unwrap_or (slice_get w a) []) j ≡ Some (Empty rs)) (arrays-fired g s.world i x) e
 
   -- the node has fired
   has-fired : (t : State) → Steps g (JustOne i x) s t → HasFired g t i x
   has-fired t st =
       let f : Firer (its_code g t.world i) (block_at c x) place.0 x =
-          subst (λ z. Firer z (block_at c x) place.0 x) (sym (ap (code_of g) (st.moves.codes i here.0))) place.1 in
+      subst (λ z. Firer z (block_at c x) place.0 x) (sym (ap (code_of g) (st.moves.codes i here.0))) place.1 in
       record {
         block = block_at c x;
         place = place.0;
@@ -185,12 +190,12 @@ module _ (g : Graph) (acc : IsAccepted g) (args : List ℕ) (s : State) (all : A
       let u = all-caught g after follows.whole after-placed in
       let t = u.0 in
       let st = steps-then g (JustOne i x) s after u.0 _ follows.runs moves u.1 u.2 (λ j b k h. ran-old s i (block_at c x) place.0 j b k h) ran-after just-ran
-          (λ j y e. subst (λ z. IsThere s.world z × (is_enabled g s.world z y ≡ true)) (sym e.0)
-              (subst (λ z. IsThere s.world i × (is_enabled g s.world i z ≡ true)) (sym e.1) here))
-          (λ j y e n. subst (λ z. has_word after.world z y ≡ true) (sym e.0) (subst (λ z. has_word after.world i z ≡ true) (sym e.1)
-              (fired-gives g s.world i x here.0
-                  (subst (λ z. is_inner (kind_at c z) ≡ true) e.1 (subst (λ z. is_inner (kind_at (its_code g s.world z) y) ≡ true) e.0 n))
-              enabled.words))) in
+      (λ j y e. subst (λ z. IsThere s.world z × (is_enabled g s.world z y ≡ true)) (sym e.0)
+      (subst (λ z. IsThere s.world i × (is_enabled g s.world i z ≡ true)) (sym e.1) here))
+      (λ j y e n. subst (λ z. has_word after.world z y ≡ true) (sym e.0) (subst (λ z. has_word after.world i z ≡ true) (sym e.1)
+      (fired-gives g s.world i x here.0
+      (subst (λ z. is_inner (kind_at c z) ≡ true) e.1 (subst (λ z. is_inner (kind_at (its_code g s.world z) y) ≡ true) e.0 n))
+      enabled.words))) in
       record {
         state = u.0;
         events = Run i (block_at c x) place.0 ∷ u.1.events;

@@ -19,8 +19,8 @@ use Rattle.tam_flow.specs.Journals.{State, has_run, block_of_act, parts_of_act}
 use Rattle.tam_flow.specs.Told.{Tells, path_of, meant_at, HaveWords, outlet_place, outlet_ran}
 use Rattle.tam_flow.specs.RunJournals.{IsCharged}
 use Rattle.tam_flow.specs.Reached.{IsThere, IsReached, HaveSome}
-use Rattle.tam_eval.proofs.Steps.{distinct-append}
-use Rattle.tam_eval.proofs.Gives.{some-word}
+use Rattle.tam_eval.proofs.KeptBySteps.{distinct-append}
+use Rattle.tam_flow.proofs.ActivationLists.{has-word}
 use Rattle.tam_eval.proofs.Charges.{HasFired, HasReceived, Charged}
 
 -- ---- kinds and vertices
@@ -62,9 +62,10 @@ distinct-differ (x ∷ xs) d (suc i) (suc j) e p q = distinct-differ xs d.1 i j 
 -- different elements become different ones
 distinct-map : {X Y : Type 0} (f : X → Y) (xs : List X) → Distinct xs → ((x y : X) → In x xs → In y xs → f x ≡ f y → x ≡ y) → Distinct (map f xs)
 distinct-map f [] d h = tt
-distinct-map f (x ∷ xs) d h =
-    (λ m. let r = in-map f (f x) xs m in d.0 (subst (λ z. In z xs) (h r.0 x (inr r.1) (inl refl) r.2) r.1),
-     distinct-map f xs d.1 (λ y z a b. h y z (inr a) (inr b)))
+distinct-map f (x ∷ xs) d h = (
+  λ m. let r = in-map f (f x) xs m in d.0 (subst (λ z. In z xs) (h r.0 x (inr r.1) (inl refl) r.2) r.1),
+  distinct-map f xs d.1 (λ y z a b. h y z (inr a) (inr b)),
+)
 
 -- lengths of mapped and joined lists
 length-both : {X Y : Type 0} (f g : X → Y) (xs ys : List X) → length (map f xs ++ map g ys) ≡ length xs + length ys
@@ -88,6 +89,7 @@ module _ (g : Graph) (args : List ℕ) (s : State) (reached : IsReached g (singl
   own-out : (p : ℕ × ℕ) → is_outlet (kind_at (its_code g s.world p.0) p.1) ≡ true → own p ≡ Of_firer (path_of s.world p.0) p.1
   own-out p h = rw (own, h) refl
 
+  -- what is no outlet is charged as the giver of its own value
   own-in : (p : ℕ × ℕ) → is_outlet (kind_at (its_code g s.world p.0) p.1) ≡ false → own p ≡ Of_giver (path_of s.world p.0) p.1
   own-in p h = rw (own, h) refl
 
@@ -98,15 +100,19 @@ module _ (g : Graph) (args : List ℕ) (s : State) (reached : IsReached g (singl
       pair : p.0 ≡ q.0 → p.1 ≡ q.1 → p ≡ q
       pair x y = ap₂ (λ (a b : ℕ). (a, b)) x y
 
+  -- equal givers have one path and one node
   givers-one : {a b : Path} {x y : ℕ} → Of_giver a x ≡ Of_giver b y → (a ≡ b) × (x ≡ y)
   givers-one e = (cc, cc)
 
+  -- and so have equal firers
   firers-one : {a b : Path} {x y : ℕ} → Of_firer a x ≡ Of_firer b y → (a ≡ b) × (x ≡ y)
   firers-one e = (cc, cc)
 
+  -- a firer is no giver
   mixed : {a b : Path} {x y : ℕ} → Of_firer a x ≡ Of_giver b y → ⊥
   mixed e = cc
 
+  -- what two nodes are charged as differs, unless they are one
   own-one : (p q : ℕ × ℕ) → IsThere s.world p.0 → IsThere s.world q.0 → own p ≡ own q → p ≡ q
   own-one p q a b e = go (is_outlet (kind_at (its_code g s.world p.0) p.1)) refl (is_outlet (kind_at (its_code g s.world q.0) q.1)) refl
     where
@@ -119,7 +125,7 @@ module _ (g : Graph) (args : List ℕ) (s : State) (reached : IsReached g (singl
   -- a node with a word has a value told
   told-value : (i x : ℕ) → IsThere s.world i → has_word s.world i x ≡ true → IsActive (Tells g (singles g) s) (Of_giver (path_of s.world i) x)
   told-value i x l h =
-      let r = some-word (activation_at s.world i).words x h in
+      let r = has-word (activation_at s.world i).words x h in
       (meant_at s.world (kind_at (its_code g s.world i) x) (depth_at (its_code g s.world i) x) r.0, (i, (l, refl), (r.0, r.1, refl)))
 
   -- words of operands mean values
@@ -134,11 +140,11 @@ module _ (g : Graph) (args : List ℕ) (s : State) (reached : IsReached g (singl
   outlet-ran i x h o =
       in-any (λ y. has_run s i b (class_of (parts_of_act g (singles g) s i b) y)) (outlet_place (block_of_act g s i b) x) h.place
       (filter-in (λ y. (vertex_at (block_of_act g s i b) y).outlet && ((vertex_at (block_of_act g s i b) y).node == x)) h.place
-          (places (block_of_act g s i b))
-          (below-in h.place (length (vertices_in c b)) (firer-within c b h.place x f))
-          (true-both (vertex_at (block_of_act g s i b) h.place).outlet ((vertex_at (block_of_act g s i b) h.place).node == x)
-              (ap (λ (z : _). (or_vertex z).outlet) f.stands ∙ firer-outlet c b h.place x f o)
-              (eq-number (vertex_at (block_of_act g s i b) h.place).node x (ap (λ (z : _). (or_vertex z).node) f.stands ∙ f.of_node))))
+      (places (block_of_act g s i b))
+      (below-in h.place (length (vertices_in c b)) (firer-within c b h.place x f))
+      (true-both (vertex_at (block_of_act g s i b) h.place).outlet ((vertex_at (block_of_act g s i b) h.place).node == x)
+      (ap (λ (z : _). (or_vertex z).outlet) f.stands ∙ firer-outlet c b h.place x f o)
+      (eq-number (vertex_at (block_of_act g s i b) h.place).node x (ap (λ (z : _). (or_vertex z).node) f.stands ∙ f.of_node))))
       (subst (λ z. has_run s i b z ≡ true) (sym class) (subst (λ z. has_run s i z h.place ≡ true) (sym same) h.ran))
     where
       c : Code
@@ -158,10 +164,10 @@ module _ (g : Graph) (args : List ℕ) (s : State) (reached : IsReached g (singl
           let r = reached.words.runs_there i h.block h.place h.ran in
           let k = reached.activations.blocks i h.block h.act r.1 in
           ap (λ (ps : Parts). class_of ps h.place)
-              (parts-single g (activation_at s.world i).code (block_at (its_code g s.world i) x) (reached.activations.codes i h.act)
-              (subst (λ z. z < length (its_code g s.world i).owners) (sym same) k))
+          (parts-single g (activation_at s.world i).code (block_at (its_code g s.world i) x) (reached.activations.codes i h.act)
+          (subst (λ z. z < length (its_code g s.world i).owners) (sym same) k))
           ∙ single-class (length (vertices_in (its_code g s.world i) (block_at (its_code g s.world i) x))) h.place
-              (firer-within (its_code g s.world i) (block_at (its_code g s.world i) x) h.place x f)
+          (firer-within (its_code g s.world i) (block_at (its_code g s.world i) x) h.place x f)
 
   -- each instance is active
   own-active : (i x : ℕ) → HasFired g s i x → IsActive (Tells g (singles g) s) (own (i, x))
@@ -186,14 +192,19 @@ module _ (g : Graph) (args : List ℕ) (s : State) (reached : IsReached g (singl
           let r = givers-one (sym (own-in p d) ∙ e) in
           let z = same-node p q h.act k.inlet.0 r.0 r.1 in
           let n = inner-no_inlet (kind_at (its_code g s.world p.0) p.1) (fires-inner (kind_at (its_code g s.world p.0) p.1)
-              (firer-fires (its_code g s.world p.0) h.block h.place p.1 h.firer) d) in
+          (firer-fires (its_code g s.world p.0) h.block h.place p.1 h.firer) d) in
           true≢false (sym (subst (λ (y : ℕ × ℕ). is_inlet (kind_at (its_code g s.world y.0) y.1) ≡ true) (sym z) k.inlet.1) ∙ n)
 
   -- so the events are charged
   pub charged-is : (made : ℕ) → Charged g s made → IsCharged g (singles g) s made
-  charged-is made h = (map own h.fired ++ map give h.received, record { different = distinct-differ (map own h.fired ++ map give h.received) distinct;
-      active = active },
-      let e = length-both own give h.fired h.received in let l = h.bound in omega arith)
+  charged-is made h = (
+    map own h.fired ++ map give h.received,
+    record {
+      different = distinct-differ (map own h.fired ++ map give h.received) distinct;
+      active = active;
+    },
+    let e = length-both own give h.fired h.received in let l = h.bound in omega arith,
+  )
     where
       apart : (y : Instance) → In y (map own h.fired) → In y (map give h.received) → ⊥
       apart y a b =
@@ -205,7 +216,7 @@ module _ (g : Graph) (args : List ℕ) (s : State) (reached : IsReached g (singl
       distinct = distinct-append (map own h.fired) (map give h.received)
           (distinct-map own h.fired h.fired_once (λ p q a b e. own-one p q (h.all_fired p.0 p.1 a).act (h.all_fired q.0 q.1 b).act e))
           (distinct-map give h.received h.received_once (λ p q a b e. let r = givers-one e in
-              same-node p q (h.all_received p.0 p.1 a).inlet.0 (h.all_received q.0 q.1 b).inlet.0 r.0 r.1)) apart
+          same-node p q (h.all_received p.0 p.1 a).inlet.0 (h.all_received q.0 q.1 b).inlet.0 r.0 r.1)) apart
 
       each : (y : Instance) → In y (map own h.fired ++ map give h.received) → IsActive (Tells g (singles g) s) y
       each y m = elim (in-append y (map own h.fired) (map give h.received) m) [

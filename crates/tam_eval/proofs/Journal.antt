@@ -18,8 +18,8 @@ use Rattle.tam_flow.specs.RunJournals.{IsCharged, EndsSo}
 use Rattle.tam_flow.specs.Reached.{IsReached}
 use Rattle.tam_eval.specs.GraphRuns.{GraphState, graph_step, graph_opening, joins, nothing_begun}
 use Rattle.tam_eval.specs.GraphLaws.{GraphRunsAreJournals}
-use Rattle.tam_eval.proofs.Sizes.{Few}
-use Rattle.tam_eval.proofs.Caught.{AllReached, reached-now, reached-on}
+use Rattle.tam_eval.proofs.WorldSizes.{Few}
+use Rattle.tam_eval.proofs.StepsCaughtUp.{AllReached, reached-now, reached-on}
 use Rattle.tam_eval.proofs.Opening.{opening-follows, opening-same, opening-charge}
 use Rattle.tam_eval.proofs.Running.{EndFits, EndGoes, run-goes}
 use Rattle.tam_eval.proofs.Charges.{Charged}
@@ -131,9 +131,9 @@ graph_runs-journals invariant g args order limits acc arguments ranges = record 
     same_activations = ap (λ (s : State). length s.world.activations) goes.goes.ends ∙ ap (λ (w : _). length w.activations) goes.world;
     ends_so = ends-so g acc args limits goes.events end.0 end.1.events goes.goes.legal after fits
         (charged-is g args (state_after g (singles g) args goes.events)
-            (reached-now g args (state_after g (singles g) args goes.events) after few) end.1.events
-            (subst (λ u. Charged g u (run_from (graph_step g limits) limits.budget (graph_opening g args order)).1.events)
-                (sym goes.goes.ends) goes.charged));
+        (reached-now g args (state_after g (singles g) args goes.events) after few) end.1.events
+        (subst (λ u. Charged g u (run_from (graph_step g limits) limits.budget (graph_opening g args order)).1.events)
+        (sym goes.goes.ends) goes.charged));
   };
   quiet_too = λ q. quiet-back g limits (state_after g (singles g) args goes.events) end.1.events end.0 fits q.whole q.ended;
 }
@@ -143,13 +143,13 @@ graph_runs-journals invariant g args order limits acc arguments ranges = record 
 
     all : AllReached g args (initial g args)
     all es l few = invariant g (singles g) args es (record {
-        accepted = acc;
-        arguments = arguments;
-        valid = singles-valid g acc;
-        legal = l;
-        few_activations = few.activations;
-        few_arrays = few.arrays;
-      })
+      accepted = acc;
+      arguments = arguments;
+      valid = singles-valid g acc;
+      legal = l;
+      few_activations = few.activations;
+      few_arrays = few.arrays;
+    })
 
     goes : EndGoes g limits (initial g args) (run_from (graph_step g limits) limits.budget (graph_opening g args order)).0
         (run_from (graph_step g limits) limits.budget (graph_opening g args order)).1
@@ -157,8 +157,8 @@ graph_runs-journals invariant g args order limits acc arguments ranges = record 
         (run_from (graph_step g limits) limits.budget d).1)
         (sym (opening-same g args order))
         (run-goes g acc args limits limits.budget (initial g args) all 0 (omega arith) ranges
-            (let f = ranges.some_frame in record { activations = omega arith; arrays = omega arith })
-            (opening-charge g args) (joins g nothing_begun (opening g)) order (opening-follows g args))
+        (let f = ranges.some_frame in record { activations = omega arith; arrays = omega arith })
+        (opening-charge g args) (joins g nothing_begun (opening g)) order (opening-follows g args))
 
     after : AllReached g args (state_after g (singles g) args goes.events)
     after = reached-on g args (initial g args) (state_after g (singles g) args goes.events) goes.events (record { legal = goes.goes.legal; ends = refl }) all
@@ -166,7 +166,7 @@ graph_runs-journals invariant g args order limits acc arguments ranges = record 
     fits : EndFits g limits (state_after g (singles g) args goes.events) (run_from (graph_step g limits) limits.budget (graph_opening g args order)).1.events
         (run_from (graph_step g limits) limits.budget (graph_opening g args order)).0
     fits = subst (λ u. EndFits g limits u (run_from (graph_step g limits) limits.budget (graph_opening g args order)).1.events
-            (run_from (graph_step g limits) limits.budget (graph_opening g args order)).0) (sym goes.goes.ends) goes.fits
+        (run_from (graph_step g limits) limits.budget (graph_opening g args order)).0) (sym goes.goes.ends) goes.fits
 
     few : Few (state_after g (singles g) args goes.events).world
     few = subst (λ (u : State). Few u.world) (sym goes.goes.ends) goes.few

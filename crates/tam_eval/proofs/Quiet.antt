@@ -9,7 +9,8 @@ use Rattle.tam_graph.specs.declared.kind.Kind.TheVariants.{Op as Operate, Seq, C
 use Rattle.tam_graph.specs.Edges.{reaches}
 use Rattle.tam_graph.specs.Graphs.{Code, Graph, code_of, kind_at, block_at, operands_of, node_numbers, has_value, fires, test_of, test_of_kind}
 use Rattle.tam_graph.specs.Written.{named_by, is_operand, is_call_node, is_cond_node, is_line}
-use Rattle.tam_graph.specs.Accepted.{IsAccepted, in_wrong_block, is_wrong_block, Wrong_block}
+use Rattle.tam_graph.specs.declared.check_cause.CheckCause.TheVariants.{WrongBlock as Wrong_block}
+use Rattle.tam_graph.specs.Accepted.{IsAccepted, in_wrong_block, is_wrong_block}
 use Rattle.tam_graph.proofs.Reaching.{reaches-self}
 use Rattle.tam_graph.proofs.Uncycled.{no-fault}
 use Rattle.tam_split.specs.declared.vertex.Vertex.{Vertex}
@@ -20,13 +21,14 @@ use Rattle.tam_split.proofs.Firers.{Firer, Giver, value-inner, firer-block, fire
 use Rattle.tam_flow.specs.Worlds.{activation_at, its_code, has_word, has_entered}
 use Rattle.tam_flow.specs.Journals.{State, Event, Run, Deliver, has_run, on_their_way, may_follow, may_run, may_arrive}
 use Rattle.tam_flow.specs.Reached.{IsReached}
-use Rattle.tam_flow.proofs.SingleRuns.{BlockThere, MayRun, may_run-parts, test-below, classes, may_run-word, ran-before}
+use Rattle.tam_flow.proofs.SingleRuns.{BlockThere, MayRun, may_run-parts, classes, may_run-word, ran-before}
 use Rattle.tam_flow.proofs.OnTheWay.{none-on_way}
 use Rattle.tam_eval.specs.GraphRuns.{is_enabled}
 use Rattle.tam_eval.proofs.Follows.{parts-is_enabled, Follows}
-use Rattle.tam_eval.proofs.Caught.{reached-placed}
-use Rattle.tam_eval.proofs.Sends.{line-at}
+use Rattle.tam_eval.proofs.StepsCaughtUp.{reached-placed}
+use Rattle.tam_eval.proofs.FiringSends.{line-at}
 use Rattle.tam_eval.proofs.Running.{below-some}
+use Rattle.tam_word.proofs.Tests.{test-below}
 
 -- ---- operands
 
@@ -58,6 +60,7 @@ is_cond_kind (Cond p y n) = true
 is_cond_kind _ = false
 
 module _ (g : Graph) (acc : IsAccepted g) (n : ℕ) (l : n < length g.codes) where
+  -- the code of the activation
   abbrev c : Code
   c = code_of g n
 
@@ -111,7 +114,7 @@ module _ (g : Graph) (acc : IsAccepted g) (n : ℕ) (l : n < length g.codes) whe
   operands-ok x a (Arg f k u) m e h (inl q) =
       let p = both-true (is_call_node c f) _ h in
       operand-ok x a m (subst (λ z. is_operand c z ≡ true) q (both-true (is_operand c u) (nat_lt k 64) p.1).0)
-          (subst (λ z. In a (named_by z)) (sym e) (inr (inl q)))
+      (subst (λ z. In a (named_by z)) (sym e) (inr (inl q)))
   operands-ok x a (Arg f k u) m e h (inr (inl q)) =
       let p = both-true (is_call_node c f) _ h in
       let b = both-true (nat_lt f (length c.nodes)) _ p.0 in
@@ -124,7 +127,7 @@ module _ (g : Graph) (acc : IsAccepted g) (n : ℕ) (l : n < length g.codes) whe
   operands-ok x a (Switch d k u) m e h (inr (inl q)) =
       let p = both-true (is_cond_node c d) _ h in
       operand-ok x a m (subst (λ z. is_operand c z ≡ true) q (both-true (is_operand c u) (nat_lt k 64) p.1).0)
-          (subst (λ z. In a (named_by z)) (sym e) (inr (inl q)))
+      (subst (λ z. In a (named_by z)) (sym e) (inr (inl q)))
   operands-ok x a (Switch d k u) m e h (inr (inr q)) = absurd q
   operands-ok x a (Switch d k u) m e h (inl q) =
       let p = both-true (is_cond_node c d) _ h in
@@ -144,7 +147,7 @@ module _ (g : Graph) (acc : IsAccepted g) (n : ℕ) (l : n < length g.codes) whe
 no-loop : (g : Graph) → IsAccepted g → (n b k : ℕ) → n < length g.codes → In (k, k) (edges_among (code_of g n) (vertices_in (code_of g n) b)) → ⊥
 no-loop g acc n b k l h =
     let e = in-any (λ (e : ℕ × ℕ). reaches (block_graph (code_of g n) b).edges e.1 e.0) (block_graph (code_of g n) b).edges (k, k) h
-        (reaches-self (block_graph (code_of g n) b).edges k) in
+    (reaches-self (block_graph (code_of g n) b).edges k) in
     true≢false (sym (accepted-block g acc n b l).no_cycle ∙ ap not e)
 
 module _ (g : Graph) (acc : IsAccepted g) (args : List ℕ) (s : State) (reached : IsReached g (singles g) args s) (follows : Follows g [] s)
@@ -184,20 +187,20 @@ module _ (g : Graph) (acc : IsAccepted g) (args : List ℕ) (s : State) (reached
       word : (a : ℕ) → In a (operands_of (its_code g s.world i) (kind_at (its_code g s.world i) x)) → has_word s.world i a ≡ true
       word a m =
           let o = operands-ok g acc (activation_at s.world i).code there.code x a (kind_at (its_code g s.world i) x) node refl
-              (line-at g acc (activation_at s.world i).code x there.code node) m in
+          (line-at g acc (activation_at s.world i).code x there.code node) m in
           let r = giver-at (its_code g s.world i) a o.there in
           let e : Giver (its_code g s.world i) b r.0 a = subst (λ z. Giver (its_code g s.world i) z r.0 a) (o.block ∙ at) r.1 in
           let edge = operand-edge (its_code g s.world i) b r.0 k x a f e m in
           let apart : r.0 ≡ k → ⊥ = λ q. no-loop g acc (activation_at s.world i).code b k there.code
-              (subst (λ z. In (z, k) (edges_among (its_code g s.world i) (vertices_in (its_code g s.world i) b))) q edge) in
+          (subst (λ z. In (z, k) (edges_among (its_code g s.world i) (vertices_in (its_code g s.world i) b))) q edge) in
           word-of r.0 a o.value e (ran-before g s i b there k r.0 may.before edge apart) e.vertex.inlet refl
 
       enabled : is_enabled g s.world i x ≡ true
       enabled = parts-is_enabled g s.world i x (record {
-            fires = firer-fires (its_code g s.world i) b k x f;
-            entered = subst (λ z. has_entered s.world i z ≡ true) (sym at) may.entered;
-            words = word;
-          })
+        fires = firer-fires (its_code g s.world i) b k x f;
+        entered = subst (λ z. has_entered s.world i z ≡ true) (sym at) may.entered;
+        words = word;
+      })
 
   -- no class may run
   none-runs : (i b k : ℕ) → may_run g (singles g) s i b k ≡ true → ⊥

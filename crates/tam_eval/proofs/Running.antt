@@ -19,15 +19,16 @@ use Rattle.tam_msgs.specs.Messages.{AreLimits}
 use Rattle.tam_istr.specs.Cells.{Arrays, cells_used}
 use Rattle.tam_flow.specs.Worlds.{World, Delivery, Went, Printed, Faulted, Fault, Second_store, Outside_cells, delivered, fired}
 use Rattle.tam_flow.specs.Journals.{State, Event, Deliver, on_their_way, may_follow}
-use Rattle.tam_flow.proofs.SingleRuns.{test-below}
+use Rattle.tam_word.proofs.Tests.{test-below}
 use Rattle.tam_eval.specs.GraphRuns.{GraphState, graph_step, chosen, some_ready, refusal, delivered_unless, after_delivery, end_of}
 use Rattle.tam_eval.proofs.Follows.{Follows, graph_of}
 use Rattle.tam_eval.proofs.Charges.{Charge, Charged, charge-charged, charged-same}
-use Rattle.tam_eval.proofs.Gives.{fired-arrays}
-use Rattle.tam_eval.proofs.Sizes.{Few, fired-size, SizedAfter, delivered-sized}
-use Rattle.tam_eval.proofs.Caught.{GoesOn, AllReached, goes-then, reached-on}
+use Rattle.tam_eval.proofs.WorldSizes.{Few, fired-size, SizedAfter, delivered-sized}
+use Rattle.tam_eval.proofs.StepsCaughtUp.{GoesOn, AllReached, goes-then, reached-on}
 use Rattle.tam_eval.proofs.Firing.{GoesTo, firing-goes, some-may as fire_may}
-use Rattle.tam_eval.proofs.Delivering.{DeliveryGoes, delivery-goes, FewAfter, taken, get-in, some-may as come_may}
+use Rattle.tam_eval.proofs.Delivering.{DeliveryGoes, delivery-goes, FewAfter, taken, some-may as come_may}
+use Rattle.tam_word.proofs.Members.{get-in}
+use Rattle.tam_flow.proofs.DeliveryChanges.{arrays-fired}
 
 -- ---- ends
 
@@ -134,7 +135,7 @@ module _ (g : Graph) (acc : IsAccepted g) (args : List ℕ) (limits : Limits) (s
   sized-fired : (i x : ℕ) → Sized limits (fired g s.world i x).world (made + 1)
   sized-fired i x = let a = sized.activations in let b = sized.arrays in record {
     activations = subst (λ n. n ≤ limits.frames) (sym (fired-size g s.world i x)) a;
-    arrays = subst (λ (rows : Arrays). length rows ≤ made + 1) (sym (fired-arrays g s.world i x)) (omega arith);
+    arrays = subst (λ (rows : Arrays). length rows ≤ made + 1) (sym (arrays-fired g s.world i x)) (omega arith);
   }
 
   -- what became ready first fires
@@ -225,6 +226,7 @@ module _ (g : Graph) (acc : IsAccepted g) (args : List ℕ) (limits : Limits) (s
     after-sized e p = let a = sized.activations in let b = sized.arrays in
         delivered-sized s.world limits.frames (made + 1) m a (omega arith) (begin-room m e)
 
+    -- within the budget, activations and arrays stay few
     few-after : (d : Delivery) → (made == limits.budget) ≡ false → SizedAfter limits.frames (made + 1) d → FewAfter d
     few-after (Went e) p z =
         let n = number-differs made limits.budget p in
@@ -241,7 +243,7 @@ module _ (g : Graph) (acc : IsAccepted g) (args : List ℕ) (limits : Limits) (s
     unless-step rest [] e p =
         let z = after-sized e p in
         delivered-step rest (delivered s.world m) p z
-            (delivery-goes g args s all few ready follows k m at (few-after (delivered s.world m) p z) rest (made + 1))
+        (delivery-goes g args s all few ready follows k m at (few-after (delivered s.world m) p z) rest (made + 1))
     unless-step rest (h ∷ more) e p = record {
       state = s;
       events = [];
@@ -307,7 +309,7 @@ run-goes g acc args limits zero s all made b ranges sized charge ready order fol
   where
     go : (o : Outcome GraphState) → graph_step g limits (graph_of s ready order made) ≡ o → StepGoes g limits s made o
         → EndGoes g limits s (run_from (graph_step g limits) zero (graph_of s ready order made)).0
-            (run_from (graph_step g limits) zero (graph_of s ready order made)).1
+        (run_from (graph_step g limits) zero (graph_of s ready order made)).1
     go (Next d) e h = absurd (true≢false (sym (eq-number made limits.budget (omega arith)) ∙ h.2))
     go (Ended how d) e h =
         subst (λ (r : End × GraphState). EndGoes g limits s r.0 r.1) (sym (run-ended (graph_step g limits) zero (graph_of s ready order made) d how e)) h
@@ -317,11 +319,11 @@ run-goes g acc args limits (suc n) s all made b ranges sized charge ready order 
   where
     go : (o : Outcome GraphState) → graph_step g limits (graph_of s ready order made) ≡ o → StepGoes g limits s made o
         → ((t : State) (es : List Event) → GoesOn g s t es → Sized limits t.world (made + 1) → Charge g t (made + 1) → (r : List (ℕ × ℕ))
-            (q : List Item) → Follows g r t
-            → EndGoes g limits t (run_from (graph_step g limits) n (graph_of t r q (made + 1))).0
-                (run_from (graph_step g limits) n (graph_of t r q (made + 1))).1)
+        (q : List Item) → Follows g r t
+        → EndGoes g limits t (run_from (graph_step g limits) n (graph_of t r q (made + 1))).0
+        (run_from (graph_step g limits) n (graph_of t r q (made + 1))).1)
         → EndGoes g limits s (run_from (graph_step g limits) (suc n) (graph_of s ready order made)).0
-            (run_from (graph_step g limits) (suc n) (graph_of s ready order made)).1
+        (run_from (graph_step g limits) (suc n) (graph_of s ready order made)).1
     go (Ended how d) e h f =
         subst (λ (r : End × GraphState). EndGoes g limits s r.0 r.1) (sym (run-ended (graph_step g limits) (suc n) (graph_of s ready order made) d how e)) h
     go (Next d) e (h, q, p, z) f =

@@ -95,9 +95,11 @@ is-due g w i b k there = found (slice_get (vertices_in (its_code g w i) b) k) re
     at : (v : Vertex) → slice_get (vertices_in (its_code g w i) b) k ≡ Some v → IsDue g w i b k
         → (v.inlet ≡ true) × (has_entered w i b ≡ true) × (has_word w i v.node ≡ true)
     at v e d =
-        let q : d.inlet.vertex ≡ v = one (sym d.inlet.stands ∙ e) in
-        (ap (λ (u : Vertex). u.inlet) (sym q) ∙ d.inlet.inlet, d.entered,
-         subst (λ y. has_word w i y ≡ true) (sym d.inlet.of_node ∙ ap (λ (u : Vertex). u.node) q) d.word)
+        let q : d.inlet.vertex ≡ v = one (sym d.inlet.stands ∙ e) in (
+          ap (λ (u : Vertex). u.inlet) (sym q) ∙ d.inlet.inlet,
+          d.entered,
+          subst (λ y. has_word w i y ≡ true) (sym d.inlet.of_node ∙ ap (λ (u : Vertex). u.node) q) d.word,
+        )
       where
         one : {a c : Vertex} → Some a ≡ Some c → a ≡ c
         one p = cc
@@ -174,8 +176,11 @@ caught-run g s t i b k ps whole placed fresh d r = record {
   where
     may : may_follow g (singles g) s (Run i b k) ≡ true
     may =
-        let m = may_run-inlet g s i b (record { act = d.act; code = placed.codes i d.act;
-            block = placed.blocks i b d.act d.entered }) k d.node d.inlet fresh d.entered d.word in
+        let m = may_run-inlet g s i b (record {
+          act = d.act;
+          code = placed.codes i d.act;
+          block = placed.blocks i b d.act d.entered;
+        }) k d.node d.inlet fresh d.entered d.word in
         true-both (is_none s.fault) (may_run g (singles g) s i b k) (ap (λ (o : Option Fault). is_none o) whole) m
 
     legal : is_legal_from g (singles g) s (Run i b k ∷ r.events) ≡ true
@@ -229,7 +234,7 @@ all-caught g s whole placed =
     there p h =
         let r = in-flat_map blocks p (below (length s.world.activations)) h in
         let q = in-flat_map (λ b. map (λ k. (r.0, b, k)) (below (length (vertices_in (its_code g s.world r.0) b)))) p
-            (below (length (its_code g s.world r.0).owners)) r.2 in
+        (below (length (its_code g s.world r.0).owners)) r.2 in
         let o = in-map (λ k. (r.0, q.0, k)) p (below (length (vertices_in (its_code g s.world r.0) q.0))) q.2 in
         subst (λ (z : ℕ × ℕ × ℕ). IsThere s.world z.0) o.2 (in-below r.0 (length s.world.activations) r.1)
 
@@ -237,8 +242,8 @@ all-caught g s whole placed =
     place-in i b k d =
         flat_map-in blocks i (i, b, k) (below (length s.world.activations)) (below-in i (length s.world.activations) d.act)
         (flat_map-in (λ c. map (λ l. (i, c, l)) (below (length (vertices_in (its_code g s.world i) c)))) b (i, b, k)
-            (below (length (its_code g s.world i).owners))
+        (below (length (its_code g s.world i).owners))
         (below-in b (length (its_code g s.world i).owners) (placed.blocks i b d.act d.entered))
         (map-in (λ l. (i, b, l)) k (below (length (vertices_in (its_code g s.world i) b)))
         (below-in k (length (vertices_in (its_code g s.world i) b))
-            (slice_get_within (vertices_in (its_code g s.world i) b) k d.inlet.vertex d.inlet.stands))))
+        (slice_get_within (vertices_in (its_code g s.world i) b) k d.inlet.vertex d.inlet.stands))))

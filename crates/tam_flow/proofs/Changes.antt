@@ -1,17 +1,19 @@
 -- Each change of a world that has its reasons leaves a world that has them.
-use Rattle.std.proofs.Common.{◌≡◌, ℕ, zero, suc, ◌<◌, Bool, true, false, ◌==◌, List, [], ◌∷◌, Some, length, slice_get, slice_set, refl, sym, ap, ◌∙◌, arith, tests, subst, inl, inr, ◌⊎◌, ⊎_elim}
+use Rattle.std.proofs.Common.{◌≡◌, ℕ, zero, suc, ◌<◌, true, false, ◌==◌, List, [], ◌∷◌, Some, length, slice_get, slice_set, refl, sym, ap, ◌∙◌, arith, subst}
+use Rattle.std.proofs.Common.{inl, inr, ◌⊎◌, ⊎_elim}
 use Rattle.std.proofs.lemmas.List.{length-append}
-use Rattle.tam_word.specs.Lists.{any_of, has, changed_at}
+use Rattle.tam_word.specs.Lists.{changed_at}
 use Rattle.tam_graph.specs.declared.kind.Kind.TheVariants.{Call}
 use Rattle.tam_msgs.specs.Messages.{outside}
 use Rattle.tam_istr.specs.Cells.{Cell}
 use Rattle.tam_graph.specs.Graphs.{Graph, code_of, callee_of_kind}
 use Rattle.tam_fire.specs.FiringRules.{Path, Begun, Entered, Fired, Holds, body_is_entered, call_begins, code_at, the_code, node_of}
 use Rattle.tam_fire.proofs.Following.{holds-by}
-use Rattle.tam_flow.specs.Worlds.{World, ActivationState, begun, or_activation, activation_at, word_among, with_word, with_block, got, entered}
+use Rattle.tam_flow.specs.Worlds.{World, ActivationState, begun, or_activation, activation_at, with_word, with_block, got, entered}
 use Rattle.tam_flow.specs.Told.{path_of, IsNumber}
 use Rattle.tam_flow.specs.Reached.{IsThere, cells_at, cell_at}
 use Rattle.tam_word.proofs.Each.{get-left, get-last, length-changed_at, last-or_before}
+use Rattle.tam_flow.proofs.ActivationLists.{was_entered, entered-cases, entered-first, word_among, word-cases}
 use Rattle.tam_flow.proofs.Growing.{Grows, KeepsPlace, with_changed, grows-changed, word-keeps, block-keeps, with_begun, grows-begun, path-begun}
 use Rattle.tam_flow.proofs.Justified.{IsValue, IsMade, IsCell, IsSoundWorld, value-later, made-later, cell-later}
 
@@ -49,7 +51,7 @@ module _ (g : Graph) (args : List ℕ) where
 
   -- one activation is changed
   pub sound-changed : (w : World) (n : ℕ) (f : ActivationState → ActivationState) → KeepsPlace f → IsSoundWorld g args w
-      → ((b : ℕ) → IsThere w n → has (f (activation_at w n)).entered b ≡ true → BlockHolds (path_of w n) b)
+      → ((b : ℕ) → IsThere w n → was_entered (f (activation_at w n)).entered b ≡ true → BlockHolds (path_of w n) b)
       → ((x u : ℕ) → IsThere w n → word_among (f (activation_at w n)).words x ≡ u ∷ [] → IsValue g args w (path_of w n) x u)
       → IsSoundWorld g args (with_changed w n f)
   sound-changed w n f keeps sound new_block new_word = record {
@@ -76,14 +78,14 @@ module _ (g : Graph) (args : List ℕ) where
       back : (i : ℕ) → IsThere (with_changed w n f) i → IsThere w i
       back i t = omega (arith, length-changed_at n f w.activations, t)
 
-      block : (i b : ℕ) → IsThere w i → has (activation_at (with_changed w n f) i).entered b ≡ true
+      block : (i b : ℕ) → IsThere w i → was_entered (activation_at (with_changed w n f) i).entered b ≡ true
           → (activation_at (with_changed w n f) i ≡ activation_at w i) ⊎ ((n ≡ i) × (activation_at (with_changed w n f) i ≡ f (activation_at w i)))
           → BlockHolds (path_of w i) b
-      block i b t h (inl e) = sound.blocks i b t (subst (λ a. has a.entered b ≡ true) e h)
+      block i b t h (inl e) = sound.blocks i b t (subst (λ a. was_entered a.entered b ≡ true) e h)
       block i b t h (inr e) =
           subst (λ m. BlockHolds (path_of w m) b) e.0
           (new_block b (subst (λ m. IsThere w m) (sym e.0) t)
-          (subst (λ m. has (f (activation_at w m)).entered b ≡ true) (sym e.0) (subst (λ a. has a.entered b ≡ true) e.1 h)))
+          (subst (λ m. was_entered (f (activation_at w m)).entered b ≡ true) (sym e.0) (subst (λ a. was_entered a.entered b ≡ true) e.1 h)))
 
       word : (i x u : ℕ) → IsThere w i → word_among (activation_at (with_changed w n f) i).words x ≡ u ∷ []
           → (activation_at (with_changed w n f) i ≡ activation_at w i) ⊎ ((n ≡ i) × (activation_at (with_changed w n f) i ≡ f (activation_at w i)))
@@ -99,28 +101,17 @@ module _ (g : Graph) (args : List ℕ) where
   sound-got w i x v sound value = sound-changed w i (with_word x v) (word-keeps x v) sound (λ b t h. sound.blocks i b t h) word
     where
       word : (y u : ℕ) → IsThere w i → word_among (with_word x v (activation_at w i)).words y ≡ u ∷ [] → IsValue g args w (path_of w i) y u
-      word y u t h = go (x == y) refl
-        where
-          head-eq : (a b : ℕ) → a ∷ [] ≡ b ∷ [] → a ≡ b
-          head-eq a b q = cc
-
-          go : (b : Bool) → (x == y) ≡ b → IsValue g args w (path_of w i) y u
-          go true e =
-              let same : x ≡ y = grind (arith, tests) in
-              let this : v ≡ u = head-eq v u (rw (word_among, e) at h) in
-              subst (λ z. IsValue g args w (path_of w i) z u) same (subst (λ z. IsValue g args w (path_of w i) x z) this value)
-          go false e = sound.words i y u t (rw (word_among, e) at h)
+      word y u t h =
+          ⊎_elim (λ e. subst (λ z. IsValue g args w (path_of w i) z u) e.0 (subst (λ z. IsValue g args w (path_of w i) x z) e.1 value)) (sound.words i y u t)
+          (word-cases x v (activation_at w i).words y u h)
 
   -- an activation enters a block that it has reason to enter
   pub sound-entered : (w : World) (i b : ℕ) → IsSoundWorld g args w → BlockHolds (path_of w i) b → IsSoundWorld g args (entered w i b)
   sound-entered w i b sound holds = sound-changed w i (with_block b) (block-keeps b) sound block (λ x u t h. sound.words i x u t h)
     where
-      block : (c : ℕ) → IsThere w i → has (with_block b (activation_at w i)).entered c ≡ true → BlockHolds (path_of w i) c
-      block c t h = go (b == c) refl
-        where
-          go : (d : Bool) → (b == c) ≡ d → BlockHolds (path_of w i) c
-          go true e = let same : b ≡ c = grind (arith, tests) in subst (λ z. BlockHolds (path_of w i) z) same holds
-          go false e = sound.blocks i c t (rw (any_of, e) at h)
+      block : (c : ℕ) → IsThere w i → was_entered (with_block b (activation_at w i)).entered c ≡ true → BlockHolds (path_of w i) c
+      block c t h =
+          ⊎_elim (λ e. subst (λ z. BlockHolds (path_of w i) z) e holds) (sound.blocks i c t) (entered-cases b (activation_at w i).entered c h)
 
   -- an activation begins for a call that fired
   pub sound-begun : (w : World) (c f x : ℕ) (q : Path) → IsSoundWorld g args w → (f == outside) ≡ false → IsNumber w q f → node_of g q x ≡ Call c
@@ -177,8 +168,9 @@ module _ (g : Graph) (args : List ℕ) where
           (sym (last i e))
           (grows.there f number.0, path i e ∙ ap (λ p. x ∷ p) (sym (grows.path f number.0 ∙ number.1)))
 
-      old_block : (i b : ℕ) → IsThere w i → has (activation_at (with_begun w c f x) i).entered b ≡ true → BlockHolds (path_of (with_begun w c f x) i) b
-      old_block i b l h = subst (λ p. BlockHolds p b) (sym (grows.path i l)) (sound.blocks i b l (subst (λ a. has a.entered b ≡ true) (same i l) h))
+      old_block : (i b : ℕ) → IsThere w i → was_entered (activation_at (with_begun w c f x) i).entered b ≡ true
+          → BlockHolds (path_of (with_begun w c f x) i) b
+      old_block i b l h = subst (λ p. BlockHolds p b) (sym (grows.path i l)) (sound.blocks i b l (subst (λ a. was_entered a.entered b ≡ true) (same i l) h))
 
       body : BlockHolds (x ∷ q) 0
       body = (
@@ -187,21 +179,11 @@ module _ (g : Graph) (args : List ℕ) where
             (sym (ap callee_of_kind calls)) opened,
       )
 
-      one : (b : ℕ) → has (0 ∷ []) b ≡ true → 0 ≡ b
-      one b h = go (0 == b) refl
-        where
-          go : (d : Bool) → (0 == b) ≡ d → 0 ≡ b
-          go true e = grind (arith, tests)
-          go false e = absurd (false-true (rw (any_of, e) at h))
-            where
-              false-true : false ≡ true → ⊥
-              false-true r = cc
-
-      new_block : (i b : ℕ) → i ≡ length w.activations → has (activation_at (with_begun w c f x) i).entered b ≡ true
+      new_block : (i b : ℕ) → i ≡ length w.activations → was_entered (activation_at (with_begun w c f x) i).entered b ≡ true
           → BlockHolds (path_of (with_begun w c f x) i) b
       new_block i b e h =
           subst (λ p. BlockHolds p b) (sym (path i e))
-          (subst (λ d. BlockHolds (x ∷ q) d) (one b (subst (λ a. has a.entered b ≡ true) (last i e) h)) body)
+          (subst (λ d. BlockHolds (x ∷ q) d) (entered-first b (subst (λ a. was_entered a.entered b ≡ true) (last i e) h)) body)
 
       old_word : (i y u : ℕ) → IsThere w i → word_among (activation_at (with_begun w c f x) i).words y ≡ u ∷ []
           → IsValue g args (with_begun w c f x) (path_of (with_begun w c f x) i) y u
@@ -229,7 +211,7 @@ module _ (g : Graph) (args : List ℕ) where
         (grows.there _ r.0, grows.path i (back i t) ∙ r.1 ∙ ap (λ p. (activation_at w i).call ∷ p) (sym (grows.path _ r.0)));
     began = λ i t. subst (λ q. Holds g args (Begun q)) (sym (grows.path i (back i t))) (sound.began i (back i t));
     blocks = λ i b t h. subst (λ q. BlockHolds q b) (sym (grows.path i (back i t)))
-        (sound.blocks i b (back i t) (subst (λ a. has a.entered b ≡ true) (same i) h));
+        (sound.blocks i b (back i t) (subst (λ a. was_entered a.entered b ≡ true) (same i) h));
     words = λ i x u t h.
         subst (λ q. IsValue g args v q x u) (sym (grows.path i (back i t)))
         (value-later g args w v grows (path_of w i) x u (sound.words i x u (back i t) (subst (λ a. word_among a.words x ≡ u ∷ []) (same i) h)));

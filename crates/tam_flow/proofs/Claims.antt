@@ -1,7 +1,6 @@
 -- What a state at rest tells of each fact that holds, and the lemmas by which it does: numbers and paths, words and meanings, outlets that ran.
-use Rattle.std.proofs.Common.{◌≡◌, ℕ, zero, suc, ◌<◌, List, [], ◌∷◌, Bool, true, false, refl, sym, subst, ap, inl, inr, ◌∙◌, true≢false, length, arith, ◌==◌}
+use Rattle.std.proofs.Common.{◌≡◌, ℕ, zero, suc, ◌<◌, List, [], ◌∷◌, true, false, refl, sym, subst, ap, inl, inr, ◌∙◌, true≢false, length, arith, ◌==◌}
 use Rattle.std.specs.List.{AllByRecursion}
-use Rattle.tam_word.specs.Lists.{any_of}
 use Rattle.tam_word.proofs.Tests.{self-eq, true-both}
 use Rattle.tam_word.proofs.Members.{In, in-any, filter-in, below-in}
 use Rattle.tam_graph.specs.declared.kind.Kind.{Kind}
@@ -19,10 +18,11 @@ use Rattle.tam_split.proofs.BlockVertices.{at-vertex, at-within, place-at, outle
 use Rattle.tam_split.proofs.LeastClasses.{valid-at}
 use Rattle.tam_split.proofs.Depends.{Depends, depends-inlet, depends-inner, depends-outlet}
 use Rattle.tam_fire.specs.FiringRules.{Path, Value, Word, Fact, Begun, Entered, Val, Fired, code_at, the_code, node_of, values}
-use Rattle.tam_flow.specs.Worlds.{World, activation_at, its_code, word_among, has_word, has_entered}
+use Rattle.tam_flow.specs.Worlds.{World, activation_at, its_code, has_word, has_entered}
 use Rattle.tam_flow.specs.Journals.{State, has_run, block_of_act, parts_of_act}
 use Rattle.tam_flow.specs.Told.{array_of, meant_at, HasWord, HaveWords, outlet_place, IsNumber, Tells}
 use Rattle.tam_flow.specs.Reached.{kind_of, depth_of, IsThere, WasSent, Has, HasSome, HaveSome, Ran, IsReached}
+use Rattle.tam_flow.proofs.ActivationLists.{word-there}
 use Rattle.tam_flow.proofs.Quiet.{IsAtRest, sent-arrived, outlet-class-ran}
 
 -- what the word u of node x of activation i means
@@ -60,7 +60,8 @@ meant-plain w k zero u n = refl
 meant-plain w k (suc d) u n = refl
 
 -- the same at two nodes of one depth
-pub same-meaning : (w : World) (k l : Kind) (d e u : ℕ) → ((c : ℕ) → k ≡ Call c → ⊥) → ((c : ℕ) → l ≡ Call c → ⊥) → d ≡ e → meant_at w k d u ≡ meant_at w l e u
+pub same-meaning : (w : World) (k l : Kind) (d e u : ℕ) → ((c : ℕ) → k ≡ Call c → ⊥) → ((c : ℕ) → l ≡ Call c → ⊥) → d ≡ e
+    → meant_at w k d u ≡ meant_at w l e u
 same-meaning w k l d e u n m p = meant-plain w k d u n ∙ (ap (λ z. plain w z u) p ∙ sym (meant-plain w l e u m))
 
 -- at depth 0 it is the word
@@ -73,16 +74,7 @@ array-meaning w k d e u n p = meant-plain w k d u n ∙ ap (λ z. plain w z u) p
 
 -- ---- words
 
--- a node with a word has one
-pub word-there : (es : List (ℕ × ℕ)) (x u : ℕ) → word_among es x ≡ u ∷ [] → any_of (λ e. e.0 == x) es ≡ true
-word-there [] x u h = absurd (cc)
-word-there (e ∷ es) x u h = go (e.0 == x) refl (word-there es x u)
-  where
-    go : (b : Bool) → (e.0 == x) ≡ b → (word_among es x ≡ u ∷ [] → any_of (λ e. e.0 == x) es ≡ true) → any_of (λ e. e.0 == x) (e ∷ es) ≡ true
-    go true p f = rw (any_of, p) refl
-    go false p f = rw (any_of, p) (f (rw (word_among, p) at h))
-
--- and one only
+-- a node has one word only
 pub one-word : (s : State) (i x u t : ℕ) → Has s i x u → Has s i x t → u ≡ t
 one-word s i x u t h k = head (sym h ∙ k)
   where
@@ -154,7 +146,8 @@ module _ (g : Graph) (all : Partitions) (args : List ℕ) (s : State) (reached :
     carry-has f x v there sent = reached.arrivals.carried f x v (sent-arrived g all s rest (Carry f x v) sent) (not-outside f there)
 
     -- an outlet of a block that was entered has run, where each inlet on which its operands depend has a word
-    pub outlet-ran : (i x : ℕ) → IsThere s.world i → is_outlet (kind_of g s.world i x) ≡ true → has_entered s.world i (block_at (its_code g s.world i) x) ≡ true
+    pub outlet-ran : (i x : ℕ) → IsThere s.world i → is_outlet (kind_of g s.world i x) ≡ true
+        → has_entered s.world i (block_at (its_code g s.world i) x) ≡ true
         → ((a : ℕ) → In a (operands_of (its_code g s.world i) (kind_of g s.world i x)) → Depends (its_code g s.world i) (HasSome s i) a) → Ran g all s i x
     outlet-ran i x there out entered each = at (outlet-place (its_code g s.world i) x out)
       where

@@ -1,8 +1,8 @@
 -- What an event leaves of a world: activations, words and entered blocks stay, and new words are of inlets or of the node that fired.
 use Rattle.std.proofs.Common.{◌≡◌, ℕ, zero, suc, ◌<◌, Bool, true, false, List, [], ◌∷◌, ◌++◌, refl, sym, subst, ap, inl, inr, ◌⊎◌, ◌∙◌, true≢false}
 use Rattle.std.proofs.Common.{◌==◌, length, slice_get, Some, None, arith}
-use Rattle.tam_word.specs.Lists.{any_of, first_of, has, changed_at}
-use Rattle.tam_word.proofs.Tests.{number-eq, eq-number}
+use Rattle.tam_word.specs.Lists.{first_of, changed_at}
+use Rattle.tam_word.proofs.Tests.{eq-number}
 use Rattle.tam_word.proofs.Members.{In, in-flat_map}
 use Rattle.tam_graph.specs.declared.kind.Kind.{Kind}
 use Rattle.tam_graph.specs.declared.kind.Kind.TheVariants.{Param, Const, Op as Operate, Seq, Call, Arg, Ret, Give, Alloc}
@@ -19,6 +19,8 @@ use Rattle.tam_flow.specs.Worlds.{World, ActivationState, Delivery, Went, Printe
 use Rattle.tam_flow.specs.Worlds.{has_word, has_entered, with_word, with_block, got, all_got, entered, merges_of, firing_of, fired_with, fired, words_of}
 use Rattle.tam_flow.specs.Worlds.{accessed, delivered}
 use Rattle.tam_flow.specs.Reached.{IsThere}
+use Rattle.tam_flow.proofs.ActivationLists.{was_entered, entered-stays, has_among, has-stays, has-cases}
+use Rattle.tam_word.proofs.Each.{length-changed_at}
 
 -- what an event leaves; Just are the nodes that fired
 pub record Moves (g : Graph) (Just : ℕ → ℕ → Type 0) (w v : World) : Type 0 where
@@ -41,12 +43,6 @@ changed-cases zero (suc j) f (x ∷ xs) = inl refl
 changed-cases (suc i) zero f (x ∷ xs) = inl refl
 changed-cases (suc i) (suc j) f (x ∷ xs) = elim (changed-cases i j f xs) [ inl e ↦ inl e | inr r ↦ inr (ap suc r.0, r.1) ]
 
--- as many elements
-pub length-changed : (i : ℕ) (f : ActivationState → ActivationState) (xs : List ActivationState) → length (changed_at i f xs) ≡ length xs
-length-changed i f [] = refl
-length-changed zero f (x ∷ xs) = refl
-length-changed (suc i) f (x ∷ xs) = ap suc (length-changed i f xs)
-
 -- an element of a list with one more is the list's, or it is that one, behind all others
 push-cases : (xs : List ActivationState) (y : ActivationState) (j : ℕ)
     → (slice_get (xs ++ y ∷ []) j ≡ slice_get xs j) ⊎ ((slice_get xs j ≡ None) × (slice_get (xs ++ y ∷ []) j ≡ Some y) × (j ≡ length xs))
@@ -64,41 +60,13 @@ length-push (x ∷ xs) y = ap suc (length-push xs y)
 
 -- an activation has a word of a node
 abbrev act_has : ActivationState → ℕ → Bool
-act_has a y = any_of (λ e. e.0 == y) a.words
-
--- one more word: the words stay
-word-stays : (x u : ℕ) (a : ActivationState) (y : ℕ) → act_has a y ≡ true → act_has (with_word x u a) y ≡ true
-word-stays x u a y h = go (x == y) refl
-  where
-    go : (t : Bool) → (x == y) ≡ t → act_has (with_word x u a) y ≡ true
-    go true p = rw (act_has, any_of, p) refl
-    go false p = rw (act_has, any_of, p) h
-
--- and no other is new
-word-new : (x u : ℕ) (a : ActivationState) (y : ℕ) → act_has (with_word x u a) y ≡ true → (act_has a y ≡ true) ⊎ (x ≡ y)
-word-new x u a y h = go (x == y) refl
-  where
-    go : (t : Bool) → (x == y) ≡ t → (act_has a y ≡ true) ⊎ (x ≡ y)
-    go true p = inr (number-eq x y p)
-    go false p = inl (rw (act_has, any_of, p) at h)
-
--- which is there
-pub word-here : (x u : ℕ) (a : ActivationState) → act_has (with_word x u a) x ≡ true
-word-here x u a = rw (act_has, any_of, eq-number x x refl) refl
-
--- one more block: the blocks stay
-block-stays : (b : ℕ) (a : ActivationState) (d : ℕ) → has a.entered d ≡ true → has (with_block b a).entered d ≡ true
-block-stays b a d h = go (b == d) refl
-  where
-    go : (t : Bool) → (b == d) ≡ t → has (with_block b a).entered d ≡ true
-    go true p = rw (has, any_of, p) refl
-    go false p = rw (has, any_of, p) h
+act_has a y = has_among a.words y
 
 -- what a change of an activation keeps
 record Keeps (f : ActivationState → ActivationState) (New : ℕ → Type 0) : Type 0 where
   code : (a : ActivationState) → (f a).code ≡ a.code
   word : (a : ActivationState) (y : ℕ) → act_has a y ≡ true → act_has (f a) y ≡ true
-  block : (a : ActivationState) (d : ℕ) → has a.entered d ≡ true → has (f a).entered d ≡ true
+  block : (a : ActivationState) (d : ℕ) → was_entered a.entered d ≡ true → was_entered (f a).entered d ≡ true
   fresh : (a : ActivationState) (y : ℕ) → act_has (f a) y ≡ true → (act_has a y ≡ true) ⊎ New y
 
 -- a world with an activation changed
@@ -138,7 +106,7 @@ module _ (g : Graph) (Just : ℕ → ℕ → Type 0) (w : World) where
   moves-changed : (v : World) (i : ℕ) (f : ActivationState → ActivationState) → Keeps f (IsNew i) → Moves g Just w v
       → Moves g Just w (record v { activations = changed_at i f v.activations })
   moves-changed v i f k m = record {
-    there = λ j h. let l : j < length v.activations = m.there j h in subst (λ n. j < n) (sym (length-changed i f v.activations)) l;
+    there = λ j h. let l : j < length v.activations = m.there j h in subst (λ n. j < n) (sym (length-changed_at i f v.activations)) l;
     codes = λ j h. code j (changed-cases i j f v.activations) ∙ m.codes j h;
     words_stay = λ j y h. stay j y (changed-cases i j f v.activations) (m.words_stay j y h);
     entered_stay = λ j b h. block j b (changed-cases i j f v.activations) (m.entered_stay j b h);
@@ -154,8 +122,9 @@ module _ (g : Graph) (Just : ℕ → ℕ → Type 0) (w : World) where
       stay j y (inr (q, (a, e, d))) h = ap (λ o. act_has (or_activation o) y) d ∙ k.word a y (sym (ap (λ o. act_has (or_activation o) y) e) ∙ h)
 
       block : (j b : ℕ) → ChangedCases v i f j → has_entered v j b ≡ true → has_entered (changed_world v i f) j b ≡ true
-      block j b (inl e) h = ap (λ o. has (or_activation o).entered b) e ∙ h
-      block j b (inr (q, (a, e, d))) h = ap (λ o. has (or_activation o).entered b) d ∙ k.block a b (sym (ap (λ o. has (or_activation o).entered b) e) ∙ h)
+      block j b (inl e) h = ap (λ o. was_entered (or_activation o).entered b) e ∙ h
+      block j b (inr (q, (a, e, d))) h =
+          ap (λ o. was_entered (or_activation o).entered b) d ∙ k.block a b (sym (ap (λ o. was_entered (or_activation o).entered b) e) ∙ h)
 
       new : (j y : ℕ) → ChangedCases v i f j → has_word (changed_world v i f) j y ≡ true → (has_word w j y ≡ true) ⊎ IsNew j y
       new j y (inl e) h = m.words_new j y (sym (ap (λ o. act_has (or_activation o) y) e) ∙ h)
@@ -167,11 +136,11 @@ module _ (g : Graph) (Just : ℕ → ℕ → Type 0) (w : World) where
   -- a node of an activation gets a word besides
   pub moves-got : (v : World) (i x u : ℕ) → IsNew i x → Moves g Just w v → Moves g Just w (got v i x u)
   moves-got v i x u n m = moves-changed v i (with_word x u) (record {
-        code = λ a. refl;
-        word = word-stays x u;
-        block = λ a d h. h;
-        fresh = λ a y h. elim (word-new x u a y h) [ inl r ↦ inl r | inr e ↦ inr (subst (IsNew i) e n) ];
-      }) m
+    code = λ a. refl;
+    word = λ a y h. has-stays x u a.words y h;
+    block = λ a d h. h;
+    fresh = λ a y h. elim (has-cases x u a.words y h) [ inl e ↦ inr (subst (IsNew i) e n) | inr r ↦ inl r ];
+  }) m
 
   -- several nodes get one
   pub moves-all_got : (v : World) (i : ℕ) (xs : List ℕ) (u : ℕ) → ((x : ℕ) → In x xs → IsNew i x) → Moves g Just w v → Moves g Just w (all_got v i xs u)
@@ -181,11 +150,11 @@ module _ (g : Graph) (Just : ℕ → ℕ → Type 0) (w : World) where
   -- a block is entered besides
   pub moves-entered : (v : World) (i b : ℕ) → Moves g Just w v → Moves g Just w (entered v i b)
   moves-entered v i b m = moves-changed v i (with_block b) (record {
-        code = λ a. refl;
-        word = λ a y h. h;
-        block = block-stays b;
-        fresh = λ a y h. inl h;
-      }) m
+    code = λ a. refl;
+    word = λ a y h. h;
+    block = λ a d h. entered-stays b a.entered d h;
+    fresh = λ a y h. inl h;
+  }) m
 
   -- an activation begins
   pub moves-begun : (c f x : ℕ) → Moves g Just w (record w { activations = w.activations ++ begun c f x ∷ [] })
@@ -206,8 +175,8 @@ module _ (g : Graph) (Just : ℕ → ℕ → Type 0) (w : World) where
       stay j y (inr (n, e, q)) h = absurd (true≢false (sym h ∙ ap (λ o. act_has (or_activation o) y) n))
 
       block : (j b : ℕ) → BegunCases w c f x j → has_entered w j b ≡ true → has_entered (begun_world w c f x) j b ≡ true
-      block j b (inl e) h = ap (λ o. has (or_activation o).entered b) e ∙ h
-      block j b (inr (n, e, q)) h = absurd (true≢false (sym h ∙ ap (λ o. has (or_activation o).entered b) n))
+      block j b (inl e) h = ap (λ o. was_entered (or_activation o).entered b) e ∙ h
+      block j b (inr (n, e, q)) h = absurd (true≢false (sym h ∙ ap (λ o. was_entered (or_activation o).entered b) n))
 
       new : (j y : ℕ) → BegunCases w c f x j → has_word (begun_world w c f x) j y ≡ true → has_word w j y ≡ true
       new j y (inl e) h = sym (ap (λ o. act_has (or_activation o) y) e) ∙ h
@@ -233,14 +202,17 @@ param-inlet : (k : ℕ) (d : Kind) → is_param k d ≡ true → is_inlet d ≡ 
 param-inlet k (Param j) h = refl
 param-inlet k d h = absurd (true≢false (sym h))
 
+-- so does the test of rets
 ret-inlet : (f k : ℕ) (d : Kind) → is_ret f k d ≡ true → is_inlet d ≡ true
 ret-inlet f k (Ret e j) h = refl
 ret-inlet f k d h = absurd (true≢false (sym h))
 
+-- that of merges
 merge-inlet : (c k : ℕ) (d : Kind) → is_merge c k d ≡ true → is_inlet d ≡ true
 merge-inlet c k (Merge e j) h = refl
 merge-inlet c k d h = absurd (true≢false (sym h))
 
+-- and that of enters
 enter-inlet : (k : ℕ) (d : Kind) → is_enter k d ≡ true → is_inlet d ≡ true
 enter-inlet k (Enter j) h = refl
 enter-inlet k d h = absurd (true≢false (sym h))
@@ -334,7 +306,7 @@ moves-arrays g w v e = record {
   there = λ j h. subst (λ (l : List ActivationState). j < length l) (sym e) h;
   codes = λ j h. ap (λ (l : List ActivationState). (or_activation (slice_get l j)).code) e;
   words_stay = λ j y h. ap (λ (l : List ActivationState). act_has (or_activation (slice_get l j)) y) e ∙ h;
-  entered_stay = λ j b h. ap (λ (l : List ActivationState). has (or_activation (slice_get l j)).entered b) e ∙ h;
+  entered_stay = λ j b h. ap (λ (l : List ActivationState). was_entered (or_activation (slice_get l j)).entered b) e ∙ h;
   words_new = λ j y h. inl (sym (ap (λ (l : List ActivationState). act_has (or_activation (slice_get l j)) y) e) ∙ h);
 }
 

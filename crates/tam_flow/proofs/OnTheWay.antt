@@ -75,7 +75,7 @@ way-split arrived sent pre (m ∷ ms) e =
         (ap (λ l. l ++ way_from arrived (suc (length pre)) ms) (flat_map-append f (below (length pre)) (length pre ∷ []))
         ∙ (append-three (flat_map f (below (length pre))) (f (length pre) ++ []) (way_from arrived (suc (length pre)) ms)
         ∙ ap (λ l. flat_map f (below (length pre)) ++ l)
-            (ap (λ l. l ++ way_from arrived (suc (length pre)) ms) (append-none (f (length pre))) ∙ head)))
+        (ap (λ l. l ++ way_from arrived (suc (length pre)) ms) (append-none (f (length pre))) ∙ head)))
 
 -- the messages on their way, from the first on
 pub way-is : (s : State) → on_their_way s ≡ way_from s.arrived 0 s.sent

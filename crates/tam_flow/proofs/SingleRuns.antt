@@ -1,6 +1,6 @@
 -- Journals over one class per vertex: when a vertex may run, and what its run does.
 use Rattle.std.proofs.Common.{◌≡◌, ℕ, ◌<◌, Bool, true, false, not, nat_lt, [], ◌∷◌, ◌++◌, refl, sym, subst, ap, inl, inr, ◌∙◌, true≢false}
-use Rattle.std.proofs.Common.{length, slice_get, Some, arith, tests}
+use Rattle.std.proofs.Common.{length, slice_get, Some}
 use Rattle.std.proofs.lemmas.Option.{slice_get_within}
 use Rattle.tam_word.specs.Lists.{below}
 use Rattle.tam_word.proofs.Tests.{both-true, not-true}
@@ -19,6 +19,7 @@ use Rattle.tam_flow.specs.Worlds.{World, Effect, activation_at, its_code, has_wo
 use Rattle.tam_flow.specs.Journals.{State, may_run, has_run, inlets_have_words, those_before_ran, class_fired, fire_each}
 use Rattle.tam_flow.specs.Journals.{block_of_act, parts_of_act}
 use Rattle.tam_flow.specs.Reached.{IsThere}
+use Rattle.tam_word.proofs.Tests.{below-test, test-below}
 
 -- the activation's code and the block are there
 pub record BlockThere (g : Graph) (w : World) (i b : ℕ) : Type 0 where
@@ -54,14 +55,6 @@ edge-places c b e h =
     let f = in-fed c (vertices_in c b) e h in
     (slice_get_within (vertices_in c b) e.0 f.giver f.at_giver, slice_get_within (vertices_in c b) e.1 f.taker f.at_taker)
 
--- the test passes below
-pub below-test : (k n : ℕ) → k < n → nat_lt k n ≡ true
-below-test k n h = grind (arith, tests)
-
--- and only there
-pub test-below : (k n : ℕ) → nat_lt k n ≡ true → k < n
-test-below k n h = grind (arith, tests)
-
 -- the parts of the test
 pub record MayRun (g : Graph) (all : Partitions) (s : State) (i b k : ℕ) : Type 0 where
   pub act : IsThere s.world i
@@ -91,8 +84,15 @@ may_run-parts g all s i b k h =
 -- and the other way round
 pub parts-may_run : (g : Graph) (all : Partitions) (s : State) (i b k : ℕ) → MayRun g all s i b k → may_run g all s i b k ≡ true
 parts-may_run g all s i b k h =
-    rw (below-test i (length s.world.activations) h.act, below-test k
-        (length (parts_of_act g all s i b)) h.class, h.not_ran, h.entered, h.words, h.before) refl
+    rw (
+      below-test i (length s.world.activations) h.act,
+      below-test k
+          (length (parts_of_act g all s i b)) h.class,
+      h.not_ran,
+      h.entered,
+      h.words,
+      h.before,
+    ) refl
 
 module _ (g : Graph) (s : State) (i b : ℕ) (there : BlockThere g s.world i b) where
   -- the code of the activation
@@ -133,7 +133,7 @@ module _ (g : Graph) (s : State) (i b : ℕ) (there : BlockThere g s.world i b) 
   may_run-word k v h p w =
       let q = subst (λ l. inlets_have_words (block_of_act g s i b) s i l ≡ true) (class-is k (slice_get_within (vertices_in c b) k v h)) w in
       let r = all-in (λ x. inlet_has s i (vertex_at (block_of_act g s i b) x))
-          (k ∷ []) q k (inl refl) in
+      (k ∷ []) q k (inl refl) in
       let t = subst (λ (u : Vertex). inlet_has s i u ≡ true) (ap or_vertex h) r in
       rw (inlet_has, p) at t
 
@@ -142,7 +142,7 @@ module _ (g : Graph) (s : State) (i b : ℕ) (there : BlockThere g s.world i b) 
       → those_before_ran (block_of_act g s i b) (parts_of_act g (singles g) s i b) s i b k ≡ true
   before-ran k f = in-all (λ d. before_has s i b (block_of_act g s i b).edges (parts_of_act g (singles g) s i b) k d)
       (below (length (parts_of_act g (singles g) s i b)))
-          (λ d h. go d (directly_before (block_of_act g s i b).edges (parts_of_act g (singles g) s i b) d k) refl)
+      (λ d h. go d (directly_before (block_of_act g s i b).edges (parts_of_act g (singles g) s i b) d k) refl)
     where
       go : (d : ℕ) (t : Bool) → directly_before (block_of_act g s i b).edges (parts_of_act g (singles g) s i b) d k ≡ t
           → before_has s i b (block_of_act g s i b).edges (parts_of_act g (singles g) s i b) k d ≡ true
@@ -156,11 +156,11 @@ module _ (g : Graph) (s : State) (i b : ℕ) (there : BlockThere g s.world i b) 
   ran-before k d h e n =
       let l : d < length (vertices_in c b) = (edge-places c b (d, k) e).0 in
       let r = all-in (λ x. before_has s i b (block_of_act g s i b).edges (parts_of_act g (singles g) s i b) k x)
-          (below (length (parts_of_act g (singles g) s i b))) h d
-              (below-in d (length (parts_of_act g (singles g) s i b)) (subst (λ m. d < m) (sym classes) l)) in
+      (below (length (parts_of_act g (singles g) s i b))) h d
+      (below-in d (length (parts_of_act g (singles g) s i b)) (subst (λ m. d < m) (sym classes) l)) in
       let p : directly_before (block_of_act g s i b).edges (parts_of_act g (singles g) s i b) d k ≡ true =
-          subst (λ ps. directly_before (edges_among c (vertices_in c b)) ps d k ≡ true) (sym parts-are)
-          (edge-before (length (vertices_in c b)) (edges_among c (vertices_in c b)) d k (edge-places c b) e n) in
+      subst (λ ps. directly_before (edges_among c (vertices_in c b)) ps d k ≡ true) (sym parts-are)
+      (edge-before (length (vertices_in c b)) (edges_among c (vertices_in c b)) d k (edge-places c b) e n) in
       rw (before_has, p) at r
 
   -- ---- what runs do
@@ -170,10 +170,10 @@ module _ (g : Graph) (s : State) (i b : ℕ) (there : BlockThere g s.world i b) 
       → class_fired g (singles g) s i b k ≡ record { world = (fired g s.world i x).world; sends = (fired g s.world i x).sends }
   run-firer k x f =
       subst (λ l. fire_each g (block_of_act g s i b) i (record { world = s.world; sends = [] }) (firing_order (block_of_act g s i b).edges l)
-          ≡ record { world = (fired g s.world i x).world; sends = (fired g s.world i x).sends })
+      ≡ record { world = (fired g s.world i x).world; sends = (fired g s.world i x).sends })
       (sym (class-is k (slice_get_within (vertices_in c b) k f.vertex f.stands)))
       (subst (λ l. fire_each g (block_of_act g s i b) i (record { world = s.world; sends = [] }) l
-          ≡ record { world = (fired g s.world i x).world; sends = (fired g s.world i x).sends })
+      ≡ record { world = (fired g s.world i x).world; sends = (fired g s.world i x).sends })
       (sym (firing-single (block_of_act g s i b).edges k)) one)
     where
       then : then_one g i (record { world = s.world; sends = [] }) f.vertex
@@ -188,7 +188,7 @@ module _ (g : Graph) (s : State) (i b : ℕ) (there : BlockThere g s.world i b) 
   pub run-inlet : (k x : ℕ) → InletAt c b k x → class_fired g (singles g) s i b k ≡ record { world = s.world; sends = [] }
   run-inlet k x f =
       subst (λ l. fire_each g (block_of_act g s i b) i (record { world = s.world; sends = [] }) (firing_order (block_of_act g s i b).edges l)
-          ≡ record { world = s.world; sends = [] })
+      ≡ record { world = s.world; sends = [] })
       (sym (class-is k (slice_get_within (vertices_in c b) k f.vertex f.stands)))
       (subst (λ l. fire_each g (block_of_act g s i b) i (record { world = s.world; sends = [] }) l ≡ record { world = s.world; sends = [] })
       (sym (firing-single (block_of_act g s i b).edges k)) one)
@@ -205,22 +205,22 @@ module _ (g : Graph) (s : State) (i b : ℕ) (there : BlockThere g s.world i b) 
   pub may_run-inlet : (k x : ℕ) → InletAt c b k x → has_run s i b k ≡ false → has_entered s.world i b ≡ true → has_word s.world i x ≡ true
       → may_run g (singles g) s i b k ≡ true
   may_run-inlet k x f r e w = parts-may_run g (singles g) s i b k (record {
-      act = there.act;
-      class = subst (λ m. k < m) (sym classes) (slice_get_within (vertices_in c b) k f.vertex f.stands);
-      not_ran = r;
-      entered = e;
-      words = words-of k f.vertex f.stands (λ h. subst (λ y. has_word s.world i y ≡ true) (sym f.of_node) w);
-      before = before-ran k (λ d h. absurd (no-edge c b d k f.vertex f.stands f.inlet h));
-    })
+    act = there.act;
+    class = subst (λ m. k < m) (sym classes) (slice_get_within (vertices_in c b) k f.vertex f.stands);
+    not_ran = r;
+    entered = e;
+    words = words-of k f.vertex f.stands (λ h. subst (λ y. has_word s.world i y ≡ true) (sym f.of_node) w);
+    before = before-ran k (λ d h. absurd (no-edge c b d k f.vertex f.stands f.inlet h));
+  })
 
   -- a vertex that fires may run once, where the givers of its operands have run
   pub may_run-firer : (k x : ℕ) → Firer c b k x → has_run s i b k ≡ false → has_entered s.world i b ≡ true
       → ((d a : ℕ) → Giver c b d a → In a (operands_of c (kind_at c x)) → has_run s i b d ≡ true) → may_run g (singles g) s i b k ≡ true
   may_run-firer k x f r e h = parts-may_run g (singles g) s i b k (record {
-      act = there.act;
-      class = subst (λ m. k < m) (sym classes) (slice_get_within (vertices_in c b) k f.vertex f.stands);
-      not_ran = r;
-      entered = e;
-      words = words-of k f.vertex f.stands (λ p. absurd (true≢false (sym p ∙ f.no_inlet)));
-      before = before-ran k (λ d m. let o = edge-operand c b d k x f m in h d o.0 o.2 o.1);
-    })
+    act = there.act;
+    class = subst (λ m. k < m) (sym classes) (slice_get_within (vertices_in c b) k f.vertex f.stands);
+    not_ran = r;
+    entered = e;
+    words = words-of k f.vertex f.stands (λ p. absurd (true≢false (sym p ∙ f.no_inlet)));
+    before = before-ran k (λ d m. let o = edge-operand c b d k x f m in h d o.0 o.2 o.1);
+  })

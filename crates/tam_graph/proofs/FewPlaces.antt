@@ -1,5 +1,6 @@
 -- A code of an accepted graph has at most 64 params and at most 64 results.
-use Rattle.std.proofs.Common.{◌≡◌, ◌≢◌, ℕ, zero, suc, ◌<◌, ◌≤◌, Bool, true, false, ◌==◌, nat_lt, List, [], ◌∷◌, filter, map, length, refl, sym, ap, subst, ◌∙◌, inl, inr, arith, tests, true≢false}
+use Rattle.std.proofs.Common.{◌≡◌, ℕ, zero, suc, ◌<◌, ◌≤◌, Bool, true, false, ◌==◌, nat_lt, List, [], ◌∷◌, filter, map, length, refl, sym, subst, ◌∙◌, inl}
+use Rattle.std.proofs.Common.{inr, arith, tests, true≢false}
 use Rattle.std.proofs.lemmas.List.{length-map}
 use Rattle.std.proofs.lemmas.List.Sums.{length-filter}
 use Rattle.std.proofs.lemmas.Bool.{cases_lt}
@@ -64,8 +65,9 @@ module _ (test : Kind → Bool) (place : Kind → ℕ) (interface : IsInterface 
       → place (kind_at (code_of g n) x) ≡ place (kind_at (code_of g n) y) → ⊥
   earlier-differs x y b m p q e =
       let same = interface.same (block_at (code_of g n) x == block_at (code_of g n) y) (kind_at (code_of g n) x) (kind_at (code_of g n) y) p q e in
-      true≢false (sym (in-any (λ z. same_place (block_at (code_of g n) z == block_at (code_of g n) y) (kind_at (code_of g n) z) (kind_at (code_of g n) y)) _ x (below-in x y b) same)
-      ∙ once-placed g acc n l y m)
+      let twice = in-any (λ z. same_place (block_at (code_of g n) z == block_at (code_of g n) y) (kind_at (code_of g n) z) (kind_at (code_of g n) y)) _ x
+      (below-in x y b) same in
+      true≢false (sym twice ∙ once-placed g acc n l y m)
 
   -- there are at most 64 of them
   few-places : number_of (code_of g n) test ≤ 64
@@ -74,11 +76,13 @@ module _ (test : Kind → Bool) (place : Kind → ℕ) (interface : IsInterface 
       let few = few-distinct 64 (map (λ x. place (kind_at c x)) (filter (λ x. test (kind_at c x)) (node_numbers c)))
       (distinct-map (λ x. place (kind_at c x)) _ (distinct-filter (λ x. test (kind_at c x)) (node_numbers c) (distinct-below (length c.nodes))) one)
       (λ k m. let r = in-map (λ x. place (kind_at c x)) k _ m in subst (λ j. j < 64) r.2 (below r.0 r.1)) in
-      omega (arith, few, length-map (filter (λ x. test (kind_at c x)) (node_numbers c)) (λ x. place (kind_at c x)), length-filter (λ x. test (kind_at c x)) (node_numbers c))
+      let as_many = length-map (filter (λ x. test (kind_at c x)) (node_numbers c)) (λ x. place (kind_at c x)) in
+      omega (arith, few, as_many, length-filter (λ x. test (kind_at c x)) (node_numbers c))
     where
       passes : (x : ℕ) → In x (filter (λ y. test (kind_at (code_of g n) y)) (node_numbers (code_of g n)))
           → (x < length (code_of g n).nodes) × (test (kind_at (code_of g n) x) ≡ true)
-      passes x m = let r = in-filter (λ y. test (kind_at (code_of g n) y)) x (node_numbers (code_of g n)) m in (in-below x (length (code_of g n).nodes) r.0, r.1)
+      passes x m =
+          let r = in-filter (λ y. test (kind_at (code_of g n) y)) x (node_numbers (code_of g n)) m in (in-below x (length (code_of g n).nodes) r.0, r.1)
 
       below : (x : ℕ) → In x (filter (λ y. test (kind_at (code_of g n) y)) (node_numbers (code_of g n))) → place (kind_at (code_of g n) x) < 64
       below x m = let p = passes x m in interface.low (length g.codes) (code_of g n) (kind_at (code_of g n) x) p.1 (right-line g acc n l x p.0)

@@ -14,7 +14,9 @@ use Rattle.tam_graph.specs.Graphs.{is_any_give, number_of}
 use Rattle.tam_graph.specs.Edges.{reaches_itself}
 use Rattle.tam_graph.specs.Written.{named_by, IsWritten}
 use Rattle.tam_graph.specs.Built.{is_built_kind}
-use Rattle.tam_graph.specs.Accepted.{Cause, Wrong_block, Place_twice, Place_range, Place_missing, Depth_mismatch, Main_type, Cycle, in_wrong_block}
+use Rattle.tam_graph.specs.declared.check_cause.CheckCause.{CheckCause}
+use Rattle.tam_graph.specs.declared.check_cause.CheckCause.TheVariants.{WrongBlock, PlaceTwice, PlaceRange, PlaceMissing, DepthMismatch, MainType, Cycle}
+use Rattle.tam_graph.specs.Accepted.{in_wrong_block}
 use Rattle.tam_graph.specs.Accepted.{is_wrong_block, same_place, is_place_twice, is_place_range, is_place_missing, has_right_depth, is_main_type, edges_to}
 use Rattle.tam_graph.specs.Accepted.{value_edges, is_cycle, faults_at, IsAccepted}
 use Rattle.tam_graph.specs.NodeLists.{number_where}
@@ -102,9 +104,9 @@ number-among nodes test =
 -- where each is in order, there is no fault
 none : (wrong twice beyond missing right main cycle : Bool) → wrong ≡ false → twice ≡ false → beyond ≡ false → missing ≡ false → right ≡ true → main ≡ false
     → cycle ≡ false
-    → where_so wrong Wrong_block ++
-    (where_so twice Place_twice ++ (where_so beyond Place_range ++ (where_so missing Place_missing ++ (where_so (not right) Depth_mismatch
-    ++ (where_so main Main_type ++ where_so cycle Cycle))))) ≡ []
+    → where_so wrong WrongBlock ++
+    (where_so twice PlaceTwice ++ (where_so beyond PlaceRange ++ (where_so missing PlaceMissing ++ (where_so (not right) DepthMismatch
+    ++ (where_so main MainType ++ where_so cycle Cycle))))) ≡ []
 none wrong twice beyond missing right main cycle a b c d e f g = rw (a, b, c, d, e, f, g) refl
 
 module _ (nodes : List Node) (form : IsForm nodes) where
@@ -205,12 +207,13 @@ module _ (nodes : List Node) (form : IsForm nodes) where
       only-code : (n : ℕ) → n < 1 → IsWritten 1 (code_of (main_graph nodes) n)
       only-code n l = subst (λ k. IsWritten 1 (code_of (main_graph nodes) k)) (first n l) (form-written nodes form)
 
-      in-main : flat_map (λ x. map (λ (f : Cause). let r : ℕ × ℕ × Cause = (0, x, f) in r) (faults_at (main_graph nodes) 0 x)) (below (length nodes)) ≡ []
-      in-main = flat-none (λ x. map (λ (f : Cause). let r : ℕ × ℕ × Cause = (0, x, f) in r) (faults_at (main_graph nodes) 0 x)) (below (length nodes))
-          (λ x i. ap (map (λ (f : Cause). let r : ℕ × ℕ × Cause = (0, x, f) in r)) (no-fault x (in-below x (length nodes) i)))
+      in-main : flat_map (λ x. map (λ (f : CheckCause). let r : ℕ × ℕ × CheckCause = (0, x, f) in r) (faults_at (main_graph nodes) 0 x))
+          (below (length nodes)) ≡ []
+      in-main = flat-none (λ x. map (λ (f : CheckCause). let r : ℕ × ℕ × CheckCause = (0, x, f) in r) (faults_at (main_graph nodes) 0 x)) (below (length nodes))
+          (λ x i. ap (map (λ (f : CheckCause). let r : ℕ × ℕ × CheckCause = (0, x, f) in r)) (no-fault x (in-below x (length nodes) i)))
 
-      only-faults : (n : ℕ) → n < 1 → flat_map (λ x. map (λ (f : Cause). let r : ℕ × ℕ × Cause = (n, x, f) in r) (faults_at (main_graph nodes) n x))
+      only-faults : (n : ℕ) → n < 1 → flat_map (λ x. map (λ (f : CheckCause). let r : ℕ × ℕ × CheckCause = (n, x, f) in r) (faults_at (main_graph nodes) n x))
           (node_numbers (code_of (main_graph nodes) n)) ≡ []
       only-faults n l =
-          subst (λ k. flat_map (λ x. map (λ (f : Cause). let r : ℕ × ℕ × Cause = (k, x, f) in r) (faults_at (main_graph nodes) k x))
+          subst (λ k. flat_map (λ x. map (λ (f : CheckCause). let r : ℕ × ℕ × CheckCause = (k, x, f) in r) (faults_at (main_graph nodes) k x))
           (node_numbers (code_of (main_graph nodes) k)) ≡ []) (first n l) in-main

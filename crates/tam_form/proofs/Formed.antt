@@ -17,7 +17,8 @@ use Rattle.tam_graph.specs.Graphs.{node_numbers, is_any_param, is_any_give, has_
 use Rattle.tam_graph.specs.Written.{IsWritten, is_operand, named_by, number_of_vertices, greatest_depth}
 use Rattle.tam_graph.specs.Reading.{is_named_right, IsCodeOfText, IsOfText}
 use Rattle.tam_graph.specs.Built.{IsBuilt, is_built_kind, names_earlier}
-use Rattle.tam_graph.specs.Accepted.{Wrong_block, Place_twice, Place_range, same_place, is_wrong_block, is_place_twice, is_place_range, IsAccepted}
+use Rattle.tam_graph.specs.declared.check_cause.CheckCause.TheVariants.{WrongBlock, PlaceTwice, PlaceRange}
+use Rattle.tam_graph.specs.Accepted.{same_place, is_wrong_block, is_place_twice, is_place_range, IsAccepted}
 use Rattle.tam_graph.proofs.AcceptedFacts.{right-depth, right-main, right-line}
 use Rattle.tam_graph.proofs.Uncycled.{no-fault}
 use Rattle.tam_graph.specs.NodeLists.{number_where}
@@ -229,11 +230,11 @@ module _ (nodes : List Node) (text : IsOfText (main_graph nodes)) (accepted : Is
   no-twice-range x l =
       let c = main_code nodes in
       let none = no-fault (main_graph nodes) accepted 0 x in-one (below-in x (length nodes) l) in
-      let behind = none-right (where_so (is_wrong_block c x) Wrong_block) _ none in (
-        not-so (is_place_twice c x) Place_twice (none-left (where_so (is_place_twice c x) Place_twice) _ behind),
-        not-so (is_place_range (main_graph nodes) c x (kind_at c x)) Place_range
-            (none-left (where_so (is_place_range (main_graph nodes) c x (kind_at c x)) Place_range) _
-            (none-right (where_so (is_place_twice c x) Place_twice) _ behind)),
+      let behind = none-right (where_so (is_wrong_block c x) WrongBlock) _ none in (
+        not-so (is_place_twice c x) PlaceTwice (none-left (where_so (is_place_twice c x) PlaceTwice) _ behind),
+        not-so (is_place_range (main_graph nodes) c x (kind_at c x)) PlaceRange
+            (none-left (where_so (is_place_range (main_graph nodes) c x (kind_at c x)) PlaceRange) _
+            (none-right (where_so (is_place_twice c x) PlaceTwice) _ behind)),
       )
 
   -- no node before it stands for its place

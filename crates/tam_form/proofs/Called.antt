@@ -1,6 +1,6 @@
 -- A node of a form is found by its name.
-use Rattle.std.proofs.Common.{◌≡◌, ℕ, zero, suc, ◌+◌, ◌<◌, List, [], ◌∷◌, Bool, true, false, refl, sym, ap, ◌∙◌, subst, arith, true≢false, take, map}
-use Rattle.std.proofs.Common.{slice_get, Some, None, inl, inr}
+use Rattle.std.proofs.Common.{◌≡◌, ℕ, zero, suc, ◌+◌, ◌<◌, List, [], ◌∷◌, Bool, true, false, refl, sym, ap, ◌∙◌, subst, arith, true≢false, take, map, slice_get}
+use Rattle.std.proofs.Common.{Some, None, inl, inr}
 use Rattle.std.specs.Prelude.{Option, is_none}
 use Rattle.tam_word.specs.Lists.{any_of, all_differ, same_bytes}
 use Rattle.tam_word.proofs.Members.{In, in-any}
@@ -38,6 +38,7 @@ all-differ-parts bs names d = go (any_of (same_bytes bs) names) refl
     go true e = absurd (true≢false (sym (rw (all_differ, e) at d)))
     go false e = (e, rw (all_differ, e) at d)
 
+-- the names of the nodes behind the first differ
 differ-behind : (o : Node) (nodes : List Node) → names_differ (o ∷ nodes) ≡ true → names_differ nodes ≡ true
 differ-behind o nodes d = go o.name refl
   where
@@ -45,6 +46,7 @@ differ-behind o nodes d = go o.name refl
     go None e = rw (given_names, e) at d
     go (Some bs) e = (all-differ-parts bs (names_of nodes) (rw (given_names, e) at d)).1
 
+-- and its name is none of them
 differ-first : (o : Node) (nodes : List Node) (bs : List ℕ) → names_differ (o ∷ nodes) ≡ true → o.name ≡ Some bs
     → any_of (same_bytes bs) (names_of nodes) ≡ false
 differ-first o nodes bs d e = (all-differ-parts bs (names_of nodes) (rw (given_names, e) at d)).0
@@ -93,7 +95,7 @@ pub called-among : (nodes : List Node) (x a : ℕ) (m : Node) → names_differ n
     → number_called 0 (or_bytes m.name) (take x nodes) ≡ Some a
 called-among nodes x a m d l e own =
     called-at 0 (or_bytes m.name) (take x nodes) a m (take-get x nodes a l ∙ e) (ap (is_called (or_bytes m.name)) own ∙ same_self (or_bytes m.name)) none
-        ∙ ap Some (omega arith)
+    ∙ ap Some (omega arith)
   where
     none : (j : ℕ) (p : Node) → j < a → slice_get (take x nodes) j ≡ Some p → is_called (or_bytes m.name) p.name ≡ false
     none j p b q = go p.name refl
@@ -106,4 +108,5 @@ called-among nodes x a m d l e own =
             apart false g = g
             apart true g =
                 let one : or_bytes m.name ≡ bs = same_equal (or_bytes m.name) bs g in
-                absurd (names-apart nodes j a p m bs (or_bytes m.name) d b (get-take x nodes j p q).1 e f own (subst (λ cs. same_bytes bs cs ≡ true) (sym one) (same_self bs)))
+                absurd (names-apart nodes j a p m bs (or_bytes m.name) d b (get-take x nodes j p q).1 e f own
+                (subst (λ cs. same_bytes bs cs ≡ true) (sym one) (same_self bs)))

@@ -33,44 +33,52 @@ flat-map : {X Y Z : Type 0} (f : Y → List Z) (g : X → Y) (xs : List X) → f
 flat-map f g [] = refl
 flat-map f g (x ∷ xs) = ap (λ zs. f (g x) ++ zs) (flat-map f g xs)
 
--- pieces in a row, whichever way they are grouped
-four : (a b c d : List ℕ) → ((a ++ b) ++ c) ++ d ≡ a ++ (b ++ (c ++ d))
-four a b c d = simp append_assoc
+-- the pieces of the line of a param or a const, grouped from the right
+number-pieces : (a b c d : List ℕ) → ((a ++ b) ++ c) ++ d ≡ a ++ (b ++ (c ++ d))
+number-pieces a b c d = simp append_assoc
 
-five : (a b c d e : List ℕ) → (((a ++ b) ++ c) ++ d) ++ e ≡ a ++ (b ++ (c ++ (d ++ e)))
-five a b c d e = simp append_assoc
+-- of a result
+result-pieces : (a b c d e : List ℕ) → (((a ++ b) ++ c) ++ d) ++ e ≡ a ++ (b ++ (c ++ (d ++ e)))
+result-pieces a b c d e = simp append_assoc
 
-six : (a b c d e f : List ℕ) → ((((a ++ b) ++ c) ++ d) ++ e) ++ f ≡ a ++ (b ++ (c ++ (d ++ (e ++ f))))
-six a b c d e f = simp append_assoc
+-- of a seq
+seq-pieces : (a b c d e f : List ℕ) → ((((a ++ b) ++ c) ++ d) ++ e) ++ f ≡ a ++ (b ++ (c ++ (d ++ (e ++ f))))
+seq-pieces a b c d e f = simp append_assoc
 
-eight : (a b c d e f g h : List ℕ) → ((((((a ++ b) ++ c) ++ d) ++ e) ++ f) ++ g) ++ h ≡ a ++ (b ++ (c ++ (d ++ (e ++ (f ++ (g ++ h))))))
-eight a b c d e f g h = simp append_assoc
+-- of an operator
+operator-pieces : (a b c d e f g h : List ℕ) → ((((((a ++ b) ++ c) ++ d) ++ e) ++ f) ++ g) ++ h ≡ a ++ (b ++ (c ++ (d ++ (e ++ (f ++ (g ++ h))))))
+operator-pieces a b c d e f g h = simp append_assoc
 
 -- a place in signed decimal is in decimal
 pub place-text : (k : ℕ) → nat_lt k 64 ≡ true → decimal k ≡ signed_text k
 place-text k h = let small : k < 64 = test-below k 64 h in rw (below-test k (2 ^ 31) (omega arith)) refl
 
--- the line of a node, by what stands at its place
-abbrev pub line_tokens : List Node → Option Node → Line
-line_tokens nodes o = elim (is_named (or_kind o)) [
-  | true ↦ Bytes (or_name o ++ suffix (or_depth o)) ∷ Bytes (codes "=") ∷ tokens (main_graph nodes) (main_code nodes) (or_kind o)
-  | false ↦ tokens (main_graph nodes) (main_code nodes) (or_kind o)
+-- the tokens of a line, behind its name where it has one
+abbrev pub kind_tokens : List Node → List ℕ → Kind → Line
+kind_tokens nodes name k = elim (is_named k) [
+  | true ↦ Bytes name ∷ Bytes (codes "=") ∷ tokens (main_graph nodes) (main_code nodes) k
+  | false ↦ tokens (main_graph nodes) (main_code nodes) k
 ]
+
+-- by what stands at the node's place
+abbrev pub line_tokens : List Node → Option Node → Line
+line_tokens nodes o = kind_tokens nodes (or_name o ++ suffix (or_depth o)) (or_kind o)
 
 module _ (nodes : List Node) where
   -- the text of the line of each kind
   kind-line : (earlier : List Node) (name : List ℕ) (k : Kind) → kind_fits earlier k ≡ true
-      → line_text (elim (is_named k) [ true ↦ Bytes (name
-          ++ []) ∷ Bytes (codes "=") ∷ tokens (main_graph nodes) (main_code nodes) k | false ↦ tokens (main_graph nodes) (main_code nodes) k ]) ≡ line_of nodes name k
+      → line_text (kind_tokens nodes (name ++ []) k) ≡ line_of nodes name k
   kind-line earlier name (Param k) h =
       ap (λ t. line_text (Bytes (name ++ []) ∷ Bytes (codes "=") ∷ Bytes (codes "param") ∷ Bytes t ∷ [])) (place-text k h)
-      ∙ (rw append-nil (sym (four name (codes " = param ") (signed_text k) (codes "\n"))))
-  kind-line earlier name (Const w) h = rw append-nil (sym (four name (codes " = const ") (signed_text w) (codes "\n")))
-  kind-line earlier name (Operate o a b) h = rw append-nil (sym (eight name (codes " = ") (op_name o) (codes " ") (name_at nodes a) (codes " ") (name_at nodes b) (codes "\n")))
-  kind-line earlier name (Seq a b) h = rw append-nil (sym (six name (codes " = seq ") (name_at nodes a) (codes " ") (name_at nodes b) (codes "\n")))
+      ∙ (rw append-nil (sym (number-pieces name (codes " = param ") (signed_text k) (codes "\n"))))
+  kind-line earlier name (Const w) h = rw append-nil (sym (number-pieces name (codes " = const ") (signed_text w) (codes "\n")))
+  kind-line earlier name (Operate o a b) h =
+      rw append-nil (sym (operator-pieces name (codes " = ") (op_name o) (codes " ") (name_at nodes a) (codes " ") (name_at nodes b) (codes "\n")))
+  kind-line earlier name (Seq a b) h = rw append-nil (sym (seq-pieces name (codes " = seq ") (name_at nodes a) (codes " ") (name_at nodes b) (codes "\n")))
   kind-line earlier name (Give k a) h =
-      ap (λ t. line_text (Bytes (codes "result") ∷ Bytes t ∷ Bytes (name_at nodes a) ∷ [])) (place-text k (both-true (has_value_at earlier a) (nat_lt k 64) h).1)
-      ∙ sym (five (codes "result ") (signed_text k) (codes " ") (name_at nodes a) (codes "\n"))
+      ap (λ t. line_text (Bytes (codes "result") ∷ Bytes t ∷ Bytes (name_at nodes a) ∷ []))
+      (place-text k (both-true (has_value_at earlier a) (nat_lt k 64) h).1)
+      ∙ sym (result-pieces (codes "result ") (signed_text k) (codes " ") (name_at nodes a) (codes "\n"))
   kind-line earlier name k h = absurd (true≢false (sym h))
 
   module _ (fit : fit_behind [] nodes ≡ true) where

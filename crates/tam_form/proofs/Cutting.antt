@@ -63,5 +63,5 @@ cut-spaced w [] after h = cut-behind w (10 ∷ after) [] after (all-parts is_wor
 cut-spaced w (v ∷ ws) after h =
     let p = all-parts is_word w (v ∷ ws) h in
     ap cut (append_assoc w (32 ∷ spaced v ws) (10 ∷ after))
-    ∙ cut-behind w (32 ∷ spaced v ws
-        ++ 10 ∷ after) (32 ∷ spaced v ws) after p.0 (ap (option_map (λ parts. (32 ∷ parts.0, parts.1))) (cut-spaced v ws after p.1))
+    ∙ cut-behind w (32 ∷ spaced v ws ++ 10 ∷ after) (32 ∷ spaced v ws) after p.0
+    (ap (option_map (λ parts. (32 ∷ parts.0, parts.1))) (cut-spaced v ws after p.1))

@@ -98,8 +98,11 @@ module _ (nodes : List Node) (fit : fit_behind [] nodes ≡ true) where
   -- a value of a front is an operand before its end
   pub value-operand : (x a : ℕ) → has_value_at (take x nodes) a ≡ true → (a < x) × (is_operand (main_code nodes) a ≡ true)
   value-operand x a h =
-      let v = value-at nodes x a h in
-      (v.2, operand (main_code nodes) a (take a nodes) v.0.kind (below-test a (length nodes) (slice_get_within nodes a v.0 v.1)) (ap or_kind v.1) (node-fits nodes fit a v.0 v.1).kind v.3)
+      let v = value-at nodes x a h in (
+        v.2,
+        operand (main_code nodes) a (take a nodes) v.0.kind (below-test a (length nodes) (slice_get_within nodes a v.0 v.1)) (ap or_kind v.1)
+            (node-fits nodes fit a v.0 v.1).kind v.3,
+      )
 
   -- the line at a place where a node stands names values, and its numbers are in range
   pub line-right : (x : ℕ) (k : Kind) → kind_fits (take x nodes) k ≡ true → is_line 1 (main_code nodes) k ≡ true

@@ -14,11 +14,9 @@ use Rattle.tam_graph.specs.Graphs.{is_any_give, number_of}
 use Rattle.tam_graph.specs.Edges.{reaches_itself}
 use Rattle.tam_graph.specs.Written.{named_by, IsWritten}
 use Rattle.tam_graph.specs.Built.{is_built_kind}
+use Rattle.tam_graph.specs.declared.check_cause.CheckCause.{CheckCause}
+use Rattle.tam_graph.specs.declared.check_cause.CheckCause.TheVariants.{WrongBlock, PlaceTwice, PlaceRange, PlaceMissing, DepthMismatch, MainType, Cycle}
 use Rattle.tam_graph.specs.Accepted.{in_wrong_block}
-use Rattle.tam_graph.specs.declared.check_cause.CheckCause.{CheckCause as Cause}
-use Rattle.tam_graph.specs.declared.check_cause.CheckCause.TheVariants.{WrongBlock as Wrong_block, PlaceTwice as Place_twice, PlaceRange as Place_range}
-use Rattle.tam_graph.specs.declared.check_cause.CheckCause.TheVariants.{PlaceMissing as Place_missing, DepthMismatch as Depth_mismatch, MainType as Main_type}
-use Rattle.tam_graph.specs.declared.check_cause.CheckCause.TheVariants.{Cycle}
 use Rattle.tam_graph.specs.Accepted.{is_wrong_block, same_place, is_place_twice, is_place_range, is_place_missing, has_right_depth, is_main_type, edges_to}
 use Rattle.tam_graph.specs.Accepted.{value_edges, is_cycle, faults_at, IsAccepted}
 use Rattle.tam_graph.specs.NodeLists.{number_where}
@@ -52,7 +50,8 @@ in-body k h = absurd (true≢false (sym h))
 -- in a code that stands in its body nothing stands in a wrong block
 pub no-wrong_block : (c : Code) → ((x : ℕ) → block_at c x ≡ 0) → (x : ℕ) → is_built_kind (kind_at c x) ≡ true → is_wrong_block c x ≡ false
 no-wrong_block c zeros x h =
-    let same : any_of (λ y. not (block_at c y == 0)) (named_by (kind_at c x)) ≡ false = none-any (λ y. not (block_at c y == 0)) (named_by (kind_at c x)) (λ y. rw (zeros y) refl) in
+    let same : any_of (λ y. not (block_at c y == 0)) (named_by (kind_at c x)) ≡ false = none-any (λ y. not (block_at c y == 0)) (named_by (kind_at c x))
+    (λ y. rw (zeros y) refl) in
     rw (zeros x, in-body (kind_at c x) h) same
 
 -- no place of such a kind is missing
@@ -103,11 +102,11 @@ number-among nodes test =
     ∙ ap (sum_by (λ n. cond (test n.kind) 1 0)) (take-length nodes)
 
 -- where each is in order, there is no fault
-none : (wrong twice beyond missing right main cycle : Bool) → wrong ≡ false → twice ≡ false → beyond ≡ false → missing ≡ false → right ≡ true
-    → main ≡ false → cycle ≡ false
-    → where_so wrong Wrong_block
-        ++ (where_so twice Place_twice ++ (where_so beyond Place_range ++ (where_so missing Place_missing ++ (where_so (not right) Depth_mismatch
-    ++ (where_so main Main_type ++ where_so cycle Cycle))))) ≡ []
+none : (wrong twice beyond missing right main cycle : Bool) → wrong ≡ false → twice ≡ false → beyond ≡ false → missing ≡ false → right ≡ true → main ≡ false
+    → cycle ≡ false
+    → where_so wrong WrongBlock ++
+    (where_so twice PlaceTwice ++ (where_so beyond PlaceRange ++ (where_so missing PlaceMissing ++ (where_so (not right) DepthMismatch
+    ++ (where_so main MainType ++ where_so cycle Cycle))))) ≡ []
 none wrong twice beyond missing right main cycle a b c d e f g = rw (a, b, c, d, e, f, g) refl
 
 module _ (nodes : List Node) (form : IsForm nodes) where
@@ -121,8 +120,8 @@ module _ (nodes : List Node) (form : IsForm nodes) where
   another x y l below_x h =
       let m = there nodes y (omega arith) in
       let n = there nodes x l in
-      let same : same_place true (or_kind (slice_get nodes y)) (or_kind (slice_get nodes x)) ≡ true = rw (blocks-zero nodes form.fit y,
-          blocks-zero nodes form.fit x) at h in
+      let same : same_place true (or_kind (slice_get nodes y)) (or_kind (slice_get nodes x)) ≡ true =
+      rw (blocks-zero nodes form.fit y, blocks-zero nodes form.fit x) at h in
       let built : is_built_kind n.0.kind ≡ true = subst (λ k. is_built_kind k ≡ true) (ap or_kind n.1) (built-at x l) in
       let here : same_interface m.0.kind n.0.kind ≡ true = sym (same-interface m.0.kind n.0.kind built) ∙ (rw (m.1, n.1) at same) in
       let among : In m.0 (take x nodes) = get-in (take x nodes) y m.0 (take-get x nodes y below_x ∙ m.1) in
@@ -139,6 +138,7 @@ module _ (nodes : List Node) (form : IsForm nodes) where
           let r = any-in (λ y. same_place (block_at c y == block_at c x) (kind_at c y) (kind_at c x)) (below x) e in
           absurd (another x r.0 l (in-below r.0 x r.1) r.2)
 
+  -- a place below a number isn't beyond it
   within : (k n m : ℕ) → n ≡ m → nat_lt k m ≡ true → beyond k n ≡ false
   within k n m e h = rw (beyond, e, h) refl
 
@@ -146,9 +146,11 @@ module _ (nodes : List Node) (form : IsForm nodes) where
   no-beyond : (x : ℕ) (n : Node) (k : Kind) → slice_get nodes x ≡ Some n → n.kind ≡ k → is_built_kind k ≡ true
       → is_place_range (main_graph nodes) (main_code nodes) x k ≡ false
   no-beyond x n (Param k) s e h =
-      within k _ (number_where is_any_param nodes) (number-among nodes is_any_param) (rw e at (all-at (λ n. place_fits (number_where is_any_param nodes) (number_where is_any_give nodes) n.kind) nodes form.places x n s))
+      within k _ (number_where is_any_param nodes) (number-among nodes is_any_param)
+      (rw e at (all-at (λ n. place_fits (number_where is_any_param nodes) (number_where is_any_give nodes) n.kind) nodes form.places x n s))
   no-beyond x n (Give k a) s e h =
-      within k _ (number_where is_any_give nodes) (number-among nodes is_any_give) (rw e at (all-at (λ n. place_fits (number_where is_any_param nodes) (number_where is_any_give nodes) n.kind) nodes form.places x n s))
+      within k _ (number_where is_any_give nodes) (number-among nodes is_any_give)
+      (rw e at (all-at (λ n. place_fits (number_where is_any_param nodes) (number_where is_any_give nodes) n.kind) nodes form.places x n s))
   no-beyond x n (Const w) s e h = refl
   no-beyond x n (Operate o a b) s e h = refl
   no-beyond x n (Seq a b) s e h = refl
@@ -164,14 +166,17 @@ module _ (nodes : List Node) (form : IsForm nodes) where
       let uncut : In e (map (λ a. (a, x)) (operands_of c (kind_at c x))) = rw (edges_to, built-split (kind_at c x) (built-at x l)) at r.2 in
       let p = in-map (λ (a : ℕ). (a, x)) e (operands_of c (kind_at c x)) uncut in
       let named = built-operands c (kind_at c x) p.0 (built-at x l) p.1 in
-      let lower : p.0 < x = test-below p.0 x (all-in (λ a. nat_lt a x) (named_by (kind_at c x)) (names-before nodes form.fit x (kind_at c x) (kind-fits-at nodes form.fit x l)) p.0 named) in
+      let lower : p.0 < x =
+      test-below p.0 x (all-in (λ a. nat_lt a x) (named_by (kind_at c x)) (names-before nodes form.fit x (kind_at c x) (kind-fits-at nodes form.fit x l)) p.0
+      named) in
       subst (λ (e : ℕ × ℕ). e.0 < e.1) p.2 lower
 
   -- so none is on a cycle
   no-cycle : (x : ℕ) → is_cycle (main_code nodes) x ≡ false
   no-cycle x =
       let c = main_code nodes in
-      ap (λ xs. has xs x) (first-none (reaches_itself (value_edges c (block_at c x))) (nodes_in c (block_at c x)) (rising-none (value_edges c (block_at c x)) (rises (block_at c x))))
+      ap (λ xs. has xs x) (first-none (reaches_itself (value_edges c (block_at c x))) (nodes_in c (block_at c x))
+      (rising-none (value_edges c (block_at c x)) (rises (block_at c x))))
 
   -- a node has no fault
   no-fault : (x : ℕ) → x < length nodes → faults_at (main_graph nodes) 0 x ≡ []
@@ -179,7 +184,8 @@ module _ (nodes : List Node) (form : IsForm nodes) where
       let g = main_graph nodes in
       let c = main_code nodes in
       let n = there nodes x l in
-      none (is_wrong_block c x) (is_place_twice c x) (is_place_range g c x (kind_at c x)) (is_place_missing g c x (kind_at c x)) (has_right_depth g c x (kind_at c x))
+      none (is_wrong_block c x) (is_place_twice c x) (is_place_range g c x (kind_at c x)) (is_place_missing g c x (kind_at c x))
+      (has_right_depth g c x (kind_at c x))
       (is_main_type c x (kind_at c x)) (is_cycle c x)
       (no-wrong_block c (blocks-zero nodes form.fit) x (built-at x l)) (no-twice x l) (no-beyond x n.0 (kind_at c x) n.1 (sym (ap or_kind n.1)) (built-at x l))
       (no-missing g c x (kind_at c x) (built-at x l)) (right-zero c (depths-zero nodes form.fit) g x (kind_at c x) (built-at x l))
@@ -191,8 +197,8 @@ module _ (nodes : List Node) (form : IsForm nodes) where
     has_main = refl;
     few_codes = refl;
     written = λ n t. only-code n (test-below n 1 t);
-    no_fault = flat-none (λ n. flat_map (λ x. map (λ f. (n, x,
-        f)) (faults_at (main_graph nodes) n x)) (node_numbers (code_of (main_graph nodes) n))) (below 1) (λ n i. only-faults n (in-below n 1 i));
+    no_fault = flat-none (λ n. flat_map (λ x. map (λ f. (n, x, f)) (faults_at (main_graph nodes) n x)) (node_numbers (code_of (main_graph nodes) n))) (below 1)
+        (λ n i. only-faults n (in-below n 1 i));
   }
     where
       first : (n : ℕ) → n < 1 → 0 ≡ n
@@ -201,13 +207,13 @@ module _ (nodes : List Node) (form : IsForm nodes) where
       only-code : (n : ℕ) → n < 1 → IsWritten 1 (code_of (main_graph nodes) n)
       only-code n l = subst (λ k. IsWritten 1 (code_of (main_graph nodes) k)) (first n l) (form-written nodes form)
 
-      in-main : flat_map (λ x. map (λ (f : Cause). let r : ℕ × ℕ × Cause = (0, x, f) in r) (faults_at (main_graph nodes) 0 x)) (below (length nodes)) ≡ []
-      in-main = flat-none (λ x. map (λ (f : Cause). let r : ℕ × ℕ × Cause = (0, x, f) in r) (faults_at (main_graph nodes) 0 x)) (below (length nodes))
-          (λ x i. ap (map (λ (f : Cause). let r : ℕ × ℕ × Cause = (0, x, f) in r)) (no-fault x (in-below x (length nodes) i)))
+      in-main : flat_map (λ x. map (λ (f : CheckCause). let r : ℕ × ℕ × CheckCause = (0, x, f) in r) (faults_at (main_graph nodes) 0 x))
+          (below (length nodes)) ≡ []
+      in-main = flat-none (λ x. map (λ (f : CheckCause). let r : ℕ × ℕ × CheckCause = (0, x, f) in r) (faults_at (main_graph nodes) 0 x)) (below (length nodes))
+          (λ x i. ap (map (λ (f : CheckCause). let r : ℕ × ℕ × CheckCause = (0, x, f) in r)) (no-fault x (in-below x (length nodes) i)))
 
-      only-faults : (n : ℕ) → n < 1
-          → flat_map (λ x. map (λ (f : Cause). let r : ℕ × ℕ
-          × Cause = (n, x, f) in r) (faults_at (main_graph nodes) n x)) (node_numbers (code_of (main_graph nodes) n)) ≡ []
+      only-faults : (n : ℕ) → n < 1 → flat_map (λ x. map (λ (f : CheckCause). let r : ℕ × ℕ × CheckCause = (n, x, f) in r) (faults_at (main_graph nodes) n x))
+          (node_numbers (code_of (main_graph nodes) n)) ≡ []
       only-faults n l =
-          subst (λ k. flat_map (λ x. map (λ (f : Cause). let r : ℕ × ℕ
-              × Cause = (k, x, f) in r) (faults_at (main_graph nodes) k x)) (node_numbers (code_of (main_graph nodes) k)) ≡ []) (first n l) in-main
+          subst (λ k. flat_map (λ x. map (λ (f : CheckCause). let r : ℕ × ℕ × CheckCause = (k, x, f) in r) (faults_at (main_graph nodes) k x))
+          (node_numbers (code_of (main_graph nodes) k)) ≡ []) (first n l) in-main

@@ -37,8 +37,7 @@ fit-at earlier [] h k n e = absurd (cc)
 fit-at earlier (m ∷ later) h k n e = go (fits earlier m) refl k e (fit-at (earlier ++ m ∷ []) later)
   where
     go : (t : Bool) → fits earlier m ≡ t → (k : ℕ) → slice_get (m ∷ later) k ≡ Some n
-        → (fit_behind (earlier ++ m ∷ []) later ≡ true → (k : ℕ) (n : Node) → slice_get later k ≡ Some n
-            → fits ((earlier ++ m ∷ []) ++ take k later) n ≡ true)
+        → (fit_behind (earlier ++ m ∷ []) later ≡ true → (k : ℕ) (n : Node) → slice_get later k ≡ Some n → fits ((earlier ++ m ∷ []) ++ take k later) n ≡ true)
         → fits (earlier ++ take k (m ∷ later)) n ≡ true
     go true p zero q i = let same : m ≡ n = cc in rw (append-nil earlier) (ap (fits earlier) (sym same) ∙ p)
     go true p (suc k) q i =
@@ -52,8 +51,8 @@ pub at-fit : (earlier later : List Node) → ((k : ℕ) (n : Node) → slice_get
 at-fit earlier [] h = refl
 at-fit earlier (m ∷ later) h =
     let here : fits earlier m ≡ true = subst (λ l. fits l m ≡ true) (append-nil earlier) (h 0 m refl) in
-    rw (fit_behind,
-        here) (at-fit (earlier ++ m ∷ []) later (λ k n e. subst (λ l. fits l n ≡ true) (sym (append_assoc earlier (m ∷ []) (take k later))) (h (suc k) n e)))
+    rw (fit_behind, here)
+    (at-fit (earlier ++ m ∷ []) later (λ k n e. subst (λ l. fits l n ≡ true) (sym (append_assoc earlier (m ∷ []) (take k later))) (h (suc k) n e)))
 
 -- the node at a place, in parts
 pub node-fits : (nodes : List Node) → fit_behind [] nodes ≡ true → (x : ℕ) (n : Node) → slice_get nodes x ≡ Some n → Fits (take x nodes) n

@@ -12,6 +12,7 @@ plain-branches : (each : ℕ → List Visit) (x : ℕ) (k : Kind) → is_plain k
 plain-branches each x (Cond p y n) h = absurd (true≢false (sym h))
 plain-branches each x k h = refl
 
+-- none is opened by its line
 plain-opened : (c : Code) (x : ℕ) (k : Kind) → kind_at c x ≡ k → is_plain k ≡ true → opened_by c (AtNode x) ≡ []
 plain-opened c x (Cond p y n) e h = absurd (true≢false (sym h))
 plain-opened c x k e h = rw (opened_by, e) refl
@@ -35,6 +36,7 @@ module _ (c : Code) (plain : (x : ℕ) → is_plain (kind_at c x) ≡ true) wher
   pub file-order : (fuel b : ℕ) → in_file_order (suc fuel) c b ≡ nodes_in c b
   file-order fuel b = ap (flat_map node_visited) (visits-plain fuel b) ∙ visited-nodes (nodes_in c b)
 
+  -- so none is opened by a list of lines
   none-opened : (xs : List ℕ) → flat_map (opened_by c) (map AtNode xs) ≡ []
   none-opened [] = refl
   none-opened (x ∷ xs) = rw (plain-opened c x (kind_at c x) refl (plain x)) (none-opened xs)

@@ -17,8 +17,8 @@ use Rattle.tam_graph.specs.Graphs.{node_numbers, is_any_param, is_any_give, has_
 use Rattle.tam_graph.specs.Written.{IsWritten, is_operand, named_by, number_of_vertices, greatest_depth}
 use Rattle.tam_graph.specs.Reading.{is_named_right, IsCodeOfText, IsOfText}
 use Rattle.tam_graph.specs.Built.{IsBuilt, is_built_kind, names_earlier}
+use Rattle.tam_graph.specs.declared.check_cause.CheckCause.TheVariants.{WrongBlock, PlaceTwice, PlaceRange}
 use Rattle.tam_graph.specs.Accepted.{same_place, is_wrong_block, is_place_twice, is_place_range, IsAccepted}
-use Rattle.tam_graph.specs.declared.check_cause.CheckCause.TheVariants.{WrongBlock as Wrong_block, PlaceTwice as Place_twice, PlaceRange as Place_range}
 use Rattle.tam_graph.proofs.AcceptedFacts.{right-depth, right-main, right-line}
 use Rattle.tam_graph.proofs.Uncycled.{no-fault}
 use Rattle.tam_graph.specs.NodeLists.{number_where}
@@ -37,6 +37,7 @@ not-so : {X : Type 0} (t : Bool) (x : X) → where_so t x ≡ [] → t ≡ false
 not-so true x h = absurd cc
 not-so false x h = refl
 
+-- what isn't false is true
 not-false : (t : Bool) → not t ≡ false → t ≡ true
 not-false true h = refl
 not-false false h = absurd (true≢false h)
@@ -62,19 +63,23 @@ one-owner owners h = by-list owners h long
     by-list (o ∷ p ∷ os) h l = absurd (omega arith)
 
 module _ (g : Graph) (text : IsOfText g) (accepted : IsAccepted g) (built : IsBuilt g) where
+  -- it has a code
   has-code : 0 < length g.codes
   has-code = let one = built.one_code in omega arith
 
+  -- the code is written
   written : IsWritten (length g.codes) (code_of g 0)
   written = (text.each_code 0 has-code).written
 
+  -- and plain
   plain : (x : ℕ) → is_plain (kind_at (code_of g 0) x) ≡ true
   plain = code-plain (code_of g 0) built.kinds
 
   -- its code has one block
   owners-one : (code_of g 0).owners ≡ None ∷ []
-  owners-one = one-owner (code_of g 0).owners (sym (ap (λ l. let r : List (ℕ
-      × Option ℕ) = (0, None) ∷ l in r) (opening-order (code_of g 0) plain (length (code_of g 0).owners) 0)) ∙ written.blocks_in_order)
+  owners-one = one-owner (code_of g 0).owners
+      (sym (ap (λ l. let r : List (ℕ × Option ℕ) = (0, None) ∷ l in r) (opening-order (code_of g 0) plain (length (code_of g 0).owners) 0))
+      ∙ written.blocks_in_order)
 
   -- it has one code
   codes-one : g.codes ≡ code_of g 0 ∷ []
@@ -87,7 +92,8 @@ module _ (g : Graph) (text : IsOfText g) (accepted : IsAccepted g) (built : IsBu
 
   -- its number is 0
   main-zero : g.main ≡ 0
-  main-zero = let one : length g.codes ≡ 1 = built.one_code in let l : g.main < length g.codes = test-below g.main (length g.codes) accepted.has_main in omega arith
+  main-zero = let one : length g.codes ≡ 1 = built.one_code in let l : g.main < length g.codes = test-below g.main (length g.codes) accepted.has_main in
+      omega arith
 
   -- of the name `main`
   named-main : (code_of g 0).name ≡ main_name
@@ -105,8 +111,8 @@ module _ (g : Graph) (text : IsOfText g) (accepted : IsAccepted g) (built : IsBu
   graph-nodes =
       ap (λ cs. let r : Graph = record { codes = cs; main = g.main } in r) codes-one
       ∙ ap (λ m. let r : Graph = record { codes = code_of g 0 ∷ []; main = m } in r) main-zero
-      ∙ ap (λ n. let r : Graph = record { codes = record { name = n; nodes = (code_of g 0).nodes; owners = (code_of g 0).owners } ∷ [];
-          main = 0 } in r) named-main
+      ∙ ap (λ n. let r : Graph = record { codes = record { name = n; nodes = (code_of g 0).nodes; owners = (code_of g 0).owners } ∷ []; main = 0 } in r)
+      named-main
       ∙ ap (λ os. let r : Graph = record { codes = record { name = main_name; nodes = (code_of g 0).nodes; owners = os } ∷ []; main = 0 } in r) owners-one
 
 -- ---- the nodes are a form
@@ -133,15 +139,19 @@ both-operands : (c : Code) (a b : ℕ) → all_of (is_operand c) (a ∷ b ∷ []
 both-operands c a b h = (all-in (is_operand c) (a ∷ b ∷ []) h a (inl refl), all-in (is_operand c) (a ∷ b ∷ []) h b (inr (inl refl)))
 
 module _ (nodes : List Node) (text : IsOfText (main_graph nodes)) (accepted : IsAccepted (main_graph nodes)) (built : IsBuilt (main_graph nodes)) where
+  -- there is a code 0
   in-one : 0 < 1
   in-one = omega arith
 
+  -- it stands in a text
   of-text : IsCodeOfText 1 (main_code nodes)
   of-text = text.each_code 0 in-one
 
+  -- it is plain
   flat : (x : ℕ) → is_plain (kind_at (main_code nodes) x) ≡ true
   flat = code-plain (main_code nodes) built.kinds
 
+  -- its body has all nodes
   body : nodes_in (main_code nodes) 0 ≡ below (length nodes)
   body = sym (file-order (main_code nodes) flat 0 0) ∙ of-text.written.nodes_in_order
 
@@ -151,21 +161,27 @@ module _ (nodes : List Node) (text : IsOfText (main_graph nodes)) (accepted : Is
       number-eq (block_at (main_code nodes) x) 0
       (in-filter (λ x. block_at (main_code nodes) x == 0) x (below (length nodes)) (subst (In x) (sym body) (below-in x (length nodes) l))).1
 
+  -- each node is built
   built-kind-at : (x : ℕ) → x < length nodes → is_built_kind (kind_at (main_code nodes) x) ≡ true
   built-kind-at x l = below-all (λ x. is_built_kind (kind_at (main_code nodes) x)) (length nodes) built.kinds x l
 
+  -- and names what stands before it
   earlier-at : (x : ℕ) → x < length nodes → all_of (λ a. nat_lt a x) (named_by (kind_at (main_code nodes) x)) ≡ true
   earlier-at x l = below-all (names_earlier (main_code nodes)) (length nodes) built.operands x l
 
   -- of each kind, the depth is 0 where it is before
   depth-of : (x : ℕ) (k : Kind) → x < length nodes → kind_at (main_code nodes) x ≡ k → is_built_kind k ≡ true
       → ((a : ℕ) → a < x → depth_at (main_code nodes) a ≡ 0) → depth_at (main_code nodes) x ≡ 0
-  depth-of x (Param k) l e h i = number-eq _ 0 (not-false (depth_at (main_code nodes) x == 0) (rw e at (right-main (main_graph nodes) accepted 0 in-one x l refl)))
+  depth-of x (Param k) l e h i =
+      number-eq _ 0 (not-false (depth_at (main_code nodes) x == 0) (rw e at (right-main (main_graph nodes) accepted 0 in-one x l refl)))
   depth-of x (Const w) l e h i = number-eq _ 0 (rw e at (right-depth (main_graph nodes) accepted 0 in-one x l))
-  depth-of x (Operate o a b) l e h i = number-eq _ 0 (both-true (depth_at (main_code nodes) x == 0) _ (rw e at (right-depth (main_graph nodes) accepted 0 in-one x l))).0
+  depth-of x (Operate o a b) l e h i =
+      number-eq _ 0 (both-true (depth_at (main_code nodes) x == 0) _ (rw e at (right-depth (main_graph nodes) accepted 0 in-one x l))).0
   depth-of x (Seq a b) l e h i = number-eq _ _ (rw e at (right-depth (main_graph nodes) accepted 0 in-one x l))
       ∙ i a (test-below a x (both-named a b x (rw e at (earlier-at x l))).0)
-  depth-of x (Give k a) l e h i = not-above (depth_at (main_code nodes) x) (rw (greatest-give (main_code nodes) x k a l e) at (below-all (λ x. nat_le (depth_at (main_code nodes) x) (greatest_depth (main_code nodes) x)) (length nodes) of-text.written.depths x l))
+  depth-of x (Give k a) l e h i = not-above (depth_at (main_code nodes) x)
+      (rw (greatest-give (main_code nodes) x k a l e) at (below-all (λ x. nat_le (depth_at (main_code nodes) x) (greatest_depth (main_code nodes) x))
+      (length nodes) of-text.written.depths x l))
   depth-of x k l e h i = absurd (true≢false (sym h))
 
   -- the depths before a place are 0
@@ -183,7 +199,8 @@ module _ (nodes : List Node) (text : IsOfText (main_graph nodes)) (accepted : Is
   value-before : (x a : ℕ) → x < length nodes → a < x → is_operand (main_code nodes) a ≡ true → has_value_at (take x nodes) a ≡ true
   value-before x a l b h =
       let t = there nodes a (omega arith) in
-      let value : has_value (or_kind (slice_get nodes a)) ≡ true = (both-true (has_value (kind_at (main_code nodes) a)) _ (both-true (nat_lt a (length nodes)) _ h).1).0 in
+      let value : has_value (or_kind (slice_get nodes a)) ≡ true =
+      (both-true (has_value (kind_at (main_code nodes) a)) _ (both-true (nat_lt a (length nodes)) _ h).1).0 in
       ap or_no_value (take-get x nodes a b ∙ t.1) ∙ valued t.0.kind (rw t.1 at value)
 
   -- so both values that are named
@@ -192,7 +209,8 @@ module _ (nodes : List Node) (text : IsOfText (main_graph nodes)) (accepted : Is
   two-values x a b l right early =
       let p = both-operands (main_code nodes) a b right in
       let q = both-named a b x early in
-      true-both (has_value_at (take x nodes) a) (has_value_at (take x nodes) b) (value-before x a l (test-below a x q.0) p.0) (value-before x b l (test-below b x q.1) p.1)
+      true-both (has_value_at (take x nodes) a) (has_value_at (take x nodes) b) (value-before x a l (test-below a x q.0) p.0)
+      (value-before x b l (test-below b x q.1) p.1)
 
   -- the kind at a place fits
   kind-of : (x : ℕ) (k : Kind) → x < length nodes → kind_at (main_code nodes) x ≡ k → is_built_kind k ≡ true → kind_fits (take x nodes) k ≡ true
@@ -202,7 +220,8 @@ module _ (nodes : List Node) (text : IsOfText (main_graph nodes)) (accepted : Is
   kind-of x (Seq a b) l e h = two-values x a b l (rw e at (right-line (main_graph nodes) accepted 0 in-one x l)) (rw e at (earlier-at x l))
   kind-of x (Give k a) l e h =
       let right = both-true (is_operand (main_code nodes) a) (nat_lt k 64) (rw e at (right-line (main_graph nodes) accepted 0 in-one x l)) in
-      true-both (has_value_at (take x nodes) a) (nat_lt k 64) (value-before x a l (test-below a x (all-in (λ a. nat_lt a x) (a ∷ []) (rw e at (earlier-at x l)) a (inl refl))) right.0) right.1
+      true-both (has_value_at (take x nodes) a) (nat_lt k 64)
+      (value-before x a l (test-below a x (all-in (λ a. nat_lt a x) (a ∷ []) (rw e at (earlier-at x l)) a (inl refl))) right.0) right.1
   kind-of x k l e h = absurd (true≢false (sym h))
 
   -- no place stands twice, and each is in range
@@ -211,10 +230,11 @@ module _ (nodes : List Node) (text : IsOfText (main_graph nodes)) (accepted : Is
   no-twice-range x l =
       let c = main_code nodes in
       let none = no-fault (main_graph nodes) accepted 0 x in-one (below-in x (length nodes) l) in
-      let behind = none-right (where_so (is_wrong_block c x) Wrong_block) _ none in (
-        not-so (is_place_twice c x) Place_twice (none-left (where_so (is_place_twice c x) Place_twice) _ behind),
-        not-so (is_place_range (main_graph nodes) c x (kind_at c x)) Place_range
-            (none-left (where_so (is_place_range (main_graph nodes) c x (kind_at c x)) Place_range) _ (none-right (where_so (is_place_twice c x) Place_twice) _ behind)),
+      let behind = none-right (where_so (is_wrong_block c x) WrongBlock) _ none in (
+        not-so (is_place_twice c x) PlaceTwice (none-left (where_so (is_place_twice c x) PlaceTwice) _ behind),
+        not-so (is_place_range (main_graph nodes) c x (kind_at c x)) PlaceRange
+            (none-left (where_so (is_place_range (main_graph nodes) c x (kind_at c x)) PlaceRange) _
+            (none-right (where_so (is_place_twice c x) PlaceTwice) _ behind)),
       )
 
   -- no node before it stands for its place
@@ -232,7 +252,8 @@ module _ (nodes : List Node) (text : IsOfText (main_graph nodes)) (accepted : Is
           let zeros : (block_at c y.0 == block_at c x) ≡ true = rw (body-at y.0 (omega (arith, q.0)), body-at x l) refl in
           let same : same_place (block_at c y.0 == block_at c x) (kind_at c y.0) (kind_at c x) ≡ true =
           rw (zeros, q.1, e) (same-interface m.0.kind n.kind (subst (λ k. is_built_kind k ≡ true) (ap or_kind e) (built-kind-at x l)) ∙ m.2) in
-          absurd (true≢false (sym (in-any (λ y. same_place (block_at c y == block_at c x) (kind_at c y) (kind_at c x)) (below x) y.0 (below-in y.0 x q.0) same) ∙ (no-twice-range x l).0))
+          absurd (true≢false (sym (in-any (λ y. same_place (block_at c y == block_at c x) (kind_at c y) (kind_at c x)) (below x) y.0 (below-in y.0 x q.0) same)
+          ∙ (no-twice-range x l).0))
 
   -- the node at a place fits
   fits-at : (x : ℕ) (n : Node) → slice_get nodes x ≡ Some n → fits (take x nodes) n ≡ true
@@ -245,6 +266,7 @@ module _ (nodes : List Node) (text : IsOfText (main_graph nodes)) (accepted : Is
         place = place-alone x n e;
       })
 
+  -- a place that isn't beyond a number is below it
   within : (k n m : ℕ) → n ≡ m → beyond k n ≡ false → nat_lt k m ≡ true
   within k n m e h = go (nat_lt k n) refl
     where
@@ -263,10 +285,12 @@ module _ (nodes : List Node) (text : IsOfText (main_graph nodes)) (accepted : Is
   pub nodes-form : IsForm nodes
   nodes-form = record {
     few =
-        let small : nat_lt (number_of_vertices (main_code nodes) 0) 129 ≡ true = below-all (λ b. nat_lt (number_of_vertices (main_code nodes) b) 129) 1 of-text.written.small_blocks 0 in-one in
+        let small : nat_lt (number_of_vertices (main_code nodes) 0) 129 ≡ true = below-all (λ b. nat_lt (number_of_vertices (main_code nodes) b) 129) 1
+        of-text.written.small_blocks 0 in-one in
         subst (λ n. nat_lt n 129 ≡ true) (vertices-nodes (main_code nodes) 0 flat ∙ (ap length body ∙ length-below (length nodes))) small;
     fit = at-fit [] nodes fits-at;
     names = of-text.nodes_differ;
     places = at-all (λ n. place_fits (number_where is_any_param nodes) (number_where is_any_give nodes) n.kind) nodes (λ x n e.
-        place-within x n.kind (subst (λ k. is_place_range (main_graph nodes) (main_code nodes) x k ≡ false) (ap or_kind e) (no-twice-range x (slice_get_within nodes x n e)).1));
+        place-within x n.kind
+        (subst (λ k. is_place_range (main_graph nodes) (main_code nodes) x k ≡ false) (ap or_kind e) (no-twice-range x (slice_get_within nodes x n e)).1));
   }

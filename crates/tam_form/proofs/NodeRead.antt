@@ -40,27 +40,38 @@ rest_words nodes (Seq a b) = codes "=" ∷ codes "seq" ∷ name_at nodes a ∷ n
 rest_words nodes (Give k a) = signed_text k ∷ name_at nodes a ∷ []
 rest_words nodes _ = []
 
--- pieces in a row before a last one, whichever way they are grouped
-four : (a b c d : List ℕ) → ((a ++ b) ++ c) ++ d ≡ (a ++ (b ++ c)) ++ d
-four a b c d = simp append_assoc
+-- the same, by the node
+abbrev pub node_first : Node → List ℕ
+node_first n = first_word (or_bytes n.name) n.kind
 
-five : (a b c d e : List ℕ) → (((a ++ b) ++ c) ++ d) ++ e ≡ (a ++ (b ++ (c ++ d))) ++ e
-five a b c d e = simp append_assoc
+abbrev pub node_rest : List Node → Node → List (List ℕ)
+node_rest nodes n = rest_words nodes n.kind
 
-six : (a b c d e f : List ℕ) → ((((a ++ b) ++ c) ++ d) ++ e) ++ f ≡ (a ++ (b ++ (c ++ (d ++ e)))) ++ f
-six a b c d e f = simp append_assoc
+-- the pieces of the line of a param or a const, its LF apart
+number-words : (a b c d : List ℕ) → ((a ++ b) ++ c) ++ d ≡ (a ++ (b ++ c)) ++ d
+number-words a b c d = simp append_assoc
 
-eight : (a b c d e f g h : List ℕ) → ((((((a ++ b) ++ c) ++ d) ++ e) ++ f) ++ g) ++ h ≡ (a ++ (b ++ (c ++ (d ++ (e ++ (f ++ g)))))) ++ h
-eight a b c d e f g h = simp append_assoc
+-- of a result
+result-words : (a b c d e : List ℕ) → (((a ++ b) ++ c) ++ d) ++ e ≡ (a ++ (b ++ (c ++ d))) ++ e
+result-words a b c d e = simp append_assoc
+
+-- of a seq
+seq-words : (a b c d e f : List ℕ) → ((((a ++ b) ++ c) ++ d) ++ e) ++ f ≡ (a ++ (b ++ (c ++ (d ++ e)))) ++ f
+seq-words a b c d e f = simp append_assoc
+
+-- of an operator
+operator-words : (a b c d e f g h : List ℕ) → ((((((a ++ b) ++ c) ++ d) ++ e) ++ f) ++ g) ++ h ≡ (a ++ (b ++ (c ++ (d ++ (e ++ (f ++ g)))))) ++ h
+operator-words a b c d e f g h = simp append_assoc
 
 -- a line is its words with one blank between
 pub line-spaced : (nodes earlier : List Node) (name : List ℕ) (k : Kind) → kind_fits earlier k ≡ true
     → line_of nodes name k ≡ spaced (first_word name k) (rest_words nodes k) ++ 10 ∷ []
-line-spaced nodes earlier name (Param k) h = four name (codes " = param ") (signed_text k) (codes "\n")
-line-spaced nodes earlier name (Const w) h = four name (codes " = const ") (signed_text w) (codes "\n")
-line-spaced nodes earlier name (Operate o a b) h = eight name (codes " = ") (op_name o) (codes " ") (name_at nodes a) (codes " ") (name_at nodes b) (codes "\n")
-line-spaced nodes earlier name (Seq a b) h = six name (codes " = seq ") (name_at nodes a) (codes " ") (name_at nodes b) (codes "\n")
-line-spaced nodes earlier name (Give k a) h = five (codes "result ") (signed_text k) (codes " ") (name_at nodes a) (codes "\n")
+line-spaced nodes earlier name (Param k) h = number-words name (codes " = param ") (signed_text k) (codes "\n")
+line-spaced nodes earlier name (Const w) h = number-words name (codes " = const ") (signed_text w) (codes "\n")
+line-spaced nodes earlier name (Operate o a b) h =
+    operator-words name (codes " = ") (op_name o) (codes " ") (name_at nodes a) (codes " ") (name_at nodes b) (codes "\n")
+line-spaced nodes earlier name (Seq a b) h = seq-words name (codes " = seq ") (name_at nodes a) (codes " ") (name_at nodes b) (codes "\n")
+line-spaced nodes earlier name (Give k a) h = result-words (codes "result ") (signed_text k) (codes " ") (name_at nodes a) (codes "\n")
 line-spaced nodes earlier name k h = absurd (true≢false (sym h))
 
 -- no operator is called `seq`
@@ -114,15 +125,17 @@ node_of name depth block kind = record { name = name; depth = depth; block = blo
 
 module _ (nodes : List Node) (fit : fit_behind [] nodes ≡ true) (differ : names_differ nodes ≡ true) where
   -- an operand is found by its name
-  operand-read : (x a : ℕ) → has_value_at (take x nodes) a ≡ true
-      → (number_called 0 (name_at nodes a) (take x nodes) ≡ Some a) × (is_name (name_at nodes a) ≡ true)
+  operand-read : (x a : ℕ) → has_value_at (take x nodes) a ≡ true → (number_called 0 (name_at nodes a) (take x nodes) ≡ Some a) ×
+      (is_name (name_at nodes a) ≡ true)
   operand-read x a h =
       let v = value-at nodes x a h in
       let f = node-fits nodes fit a v.0 v.1 in
       let own = name-there v.0 (named-kind (take a nodes) v.0.kind f.kind v.3) f.named in
-      let here : or_bytes v.0.name ≡ name_at nodes a = ap or_name (sym v.1) in
-      (subst (λ bs. number_called 0 bs (take x nodes) ≡ Some a) here (called-among nodes x a v.0 differ v.2 v.1 own.0),
-          subst (λ bs. is_name bs ≡ true) here own.1)
+      let here : or_bytes v.0.name ≡ name_at nodes a = ap or_name (sym v.1) in (
+        subst (λ bs. number_called 0 bs (take x nodes) ≡ Some a) here (called-among nodes x a v.0 differ v.2 v.1 own.0),
+        subst (λ bs. is_name bs ≡ true) here
+            own.1,
+      )
 
   -- so are two
   both-read : (x a b : ℕ) → has_value_at (take x nodes) a ≡ true → has_value_at (take x nodes) b ≡ true
@@ -149,9 +162,9 @@ module _ (nodes : List Node) (fit : fit_behind [] nodes ≡ true) (differ : name
   give-read x k a h =
       let v = both-true (has_value_at (take x nodes) a) (nat_lt k 64) h in rw (place-again k v.1, (operand-read x a v.0).0) refl
 
-  -- they read as the node
+  -- the words of a node read as the node
   pub node-again : (x : ℕ) (n : Node) → slice_get nodes x ≡ Some n
-      → node_read (take x nodes) (first_word (or_bytes n.name) n.kind ∷ rest_words nodes n.kind) ≡ Some n
+      → node_read (take x nodes) (node_first n ∷ node_rest nodes n) ≡ Some n
   node-again x n e = go (is_named n.kind) refl
     where
       f : Fits (take x nodes) n
@@ -162,7 +175,7 @@ module _ (nodes : List Node) (fit : fit_behind [] nodes ≡ true) (differ : name
           ap (λ o. Some (node_of o 0 0 k)) (sym q) ∙ ap (λ d. Some (node_of n.name d 0 k)) (sym f.depth)
           ∙ ap (λ b. Some (node_of n.name n.depth b k)) (sym f.block) ∙ ap (λ k. Some (node_of n.name n.depth n.block k)) (sym p)
 
-      go : (t : Bool) → is_named n.kind ≡ t → node_read (take x nodes) (first_word (or_bytes n.name) n.kind ∷ rest_words nodes n.kind) ≡ Some n
+      go : (t : Bool) → is_named n.kind ≡ t → node_read (take x nodes) (node_first n ∷ node_rest nodes n) ≡ Some n
       go true h =
           let own = name-there n h f.named in
           kind-read x (or_bytes n.name) n.kind f.kind h own.1 ∙ of-parts n.kind (Some (or_bytes n.name)) refl own.0
@@ -171,7 +184,7 @@ module _ (nodes : List Node) (fit : fit_behind [] nodes ≡ true) (differ : name
           subst (λ k. node_read (take x nodes) (first_word (or_bytes n.name) k ∷ rest_words nodes k) ≡ Some n) (sym g.2)
           (give-read x g.0 g.1 (subst (λ k. kind_fits (take x nodes) k ≡ true) g.2 f.kind) ∙ of-parts (Give g.0 g.1) None g.2 (name-absent n h f.named))
 
-  -- none of them has a blank
+  -- no word of such a kind has a blank
   kind-plain : (x : ℕ) (bs : List ℕ) (k : Kind) → kind_fits (take x nodes) k ≡ true → (is_named k ≡ true → is_word bs ≡ true)
       → all_of is_word (first_word bs k ∷ rest_words nodes k) ≡ true
   kind-plain x bs (Param k) h p = rw (all_of, p refl, signed-word k (let l : k < 64 = test-below k 64 h in omega arith)) refl
@@ -187,5 +200,7 @@ module _ (nodes : List Node) (fit : fit_behind [] nodes ≡ true) (differ : name
       rw (all_of, signed-word k (let l : k < 64 = test-below k 64 v.1 in omega arith), name-word (name_at nodes a) (operand-read x a v.0).1) refl
   kind-plain x bs k h p = absurd (true≢false (sym h))
 
-  pub words-plain : (x : ℕ) (n : Node) → slice_get nodes x ≡ Some n → all_of is_word (first_word (or_bytes n.name) n.kind ∷ rest_words nodes n.kind) ≡ true
-  words-plain x n e = let f = node-fits nodes fit x n e in kind-plain x (or_bytes n.name) n.kind f.kind (λ h. name-word (or_bytes n.name) (name-there n h f.named).1)
+  -- so none of a node's words has one
+  pub words-plain : (x : ℕ) (n : Node) → slice_get nodes x ≡ Some n → all_of is_word (node_first n ∷ node_rest nodes n) ≡ true
+  words-plain x n e = let f = node-fits nodes fit x n e in
+      kind-plain x (or_bytes n.name) n.kind f.kind (λ h. name-word (or_bytes n.name) (name-there n h f.named).1)

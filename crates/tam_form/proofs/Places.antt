@@ -89,5 +89,6 @@ at-all test xs h = in-all test xs (λ x i. let p = in-get x xs i in h p.0 x p.1)
 pub all-below : (test : ℕ → Bool) (n : ℕ) → ((x : ℕ) → x < n → test x ≡ true) → all_of test (below n) ≡ true
 all-below test n h = in-all test (below n) (λ x i. h x (in-below x n i))
 
+-- and the other way round
 pub below-all : (test : ℕ → Bool) (n : ℕ) → all_of test (below n) ≡ true → (x : ℕ) → x < n → test x ≡ true
 below-all test n h x l = all-in test (below n) h x (below-in x n l)

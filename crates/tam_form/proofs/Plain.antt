@@ -1,6 +1,6 @@
 -- Names, numbers and the words of the form have no blank and no LF.
-use Rattle.std.proofs.Common.{◌≡◌, ℕ, ◌^◌, ◌-◌, ◌<◌, List, [], ◌∷◌, Bool, true, false, refl, sym, arith, length, true≢false, ◌==◌, ◌&&◌, nat_lt, nat_le}
-use Rattle.std.proofs.Common.{tests, cond}
+use Rattle.std.proofs.Common.{◌≡◌, ℕ, ◌^◌, ◌-◌, ◌<◌, List, [], ◌∷◌, Bool, true, false, refl, sym, arith, length, true≢false, ◌==◌, ◌&&◌, nat_lt, nat_le, tests}
+use Rattle.std.proofs.Common.{cond}
 use Rattle.std.specs.Prelude.{decimal}
 use Rattle.tam_word.specs.Lists.{all_of}
 use Rattle.tam_word.specs.Words.{signed_text}
@@ -36,6 +36,7 @@ digits-word (b ∷ bs) h = go (nat_lt (digit_of b) 10) refl (digits-word bs)
     go true e i = rw (all_of, digit-above b e) (i (rw (are_digits, e) at h))
     go false e i = absurd (true≢false (sym (rw (are_digits, e) at h)))
 
+-- a number in decimal is digits
 decimal-digits : (bs : List ℕ) → is_decimal bs ≡ true → are_digits 10 bs ≡ true
 decimal-digits [] h = refl
 decimal-digits (b ∷ []) h = h
@@ -45,6 +46,7 @@ decimal-digits (b ∷ c ∷ bs) h = go (b == 48) refl
     go true e = absurd (true≢false (sym (rw (is_decimal, e) at h)))
     go false e = rw (is_decimal, e) at h
 
+-- so it is a word of the form
 decimal-word : (n : ℕ) → n < 2 ^ 64 → is_word (decimal n) ≡ true
 decimal-word n l = digits-word (decimal n) (decimal-digits (decimal n) (is_decimal-decimal n l))
 
@@ -65,12 +67,14 @@ letter-above b h = go (nat_le 65 b && nat_le b 90) refl (nat_le 97 b && nat_le b
     go false e true f = let low : nat_le 97 b ≡ true = (both-true (nat_le 97 b) (nat_le b 122) f).0 in grind (arith, tests)
     go false e false f = let last : (b == 95) ≡ true = rw (e, f) at h in grind (arith, tests)
 
+-- so is what continues a name
 continues-above : (b : ℕ) → continues_name b ≡ true → nat_lt 32 b ≡ true
 continues-above b h = go (is_letter b) refl
   where
     go : (t : Bool) → is_letter b ≡ t → nat_lt 32 b ≡ true
     go true e = letter-above b e
-    go false e = let digit : (nat_le 48 b && nat_le b 57) ≡ true = rw e at h in let low : nat_le 48 b ≡ true = (both-true (nat_le 48 b) (nat_le b 57) digit).0 in grind (arith, tests)
+    go false e = let digit : (nat_le 48 b && nat_le b 57) ≡ true = rw e at h in let low : nat_le 48 b ≡ true =
+        (both-true (nat_le 48 b) (nat_le b 57) digit).0 in grind (arith, tests)
 
 -- a name is a word of the form
 pub name-word : (bs : List ℕ) → is_name bs ≡ true → is_word bs ≡ true

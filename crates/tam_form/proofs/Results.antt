@@ -41,6 +41,7 @@ module _ (text rest : List ℕ) (behind : rest ≡ drop 15 text) (nodes : List N
   not-none h = let e = h ∙ read-nodes in cc
 
   module _ (found : List Node) (is : Some found ≡ nodes_read 129 [] rest) where
+    -- the nodes that are found are these
     one : found ≡ nodes
     one = let e = is ∙ read-nodes in cc
 
@@ -56,10 +57,12 @@ module _ (text rest : List ℕ) (behind : rest ≡ drop 15 text) (nodes : List N
 printed : (nodes lent : List Node) (again held : List ℕ) → again ≡ text_of lent → lent ≡ nodes → held ≡ again → held ≡ text_of nodes
 printed nodes lent again held is same_nodes same = same ∙ (is ∙ ap text_of same_nodes)
 
+-- where the bytes are the same, it is the text
 pub text-found : (nodes lent : List Node) (again held text : List ℕ) → again ≡ text_of lent → lent ≡ nodes → held ≡ again → true ≡ same_bytes held text
     → text_of nodes ≡ text
 text-found nodes lent again held text is same_nodes same h = sym (printed nodes lent again held is same_nodes same) ∙ same_equal held text (sym h)
 
+-- where they aren't, it isn't
 pub text-differs : (nodes lent : List Node) (again held text : List ℕ) → again ≡ text_of lent → lent ≡ nodes → held ≡ again → false ≡ same_bytes held text
     → same_bytes (text_of nodes) text ≡ false
 text-differs nodes lent again held text is same_nodes same h = ap (λ t. same_bytes t text) (sym (printed nodes lent again held is same_nodes same)) ∙ sym h

@@ -1,6 +1,6 @@
 -- Reading a text line by line.
-use Rattle.std.proofs.Common.{◌≡◌, ℕ, zero, suc, ◌+◌, ◌-◌, ◌<◌, List, [], ◌∷◌, ◌++◌, true, false, refl, sym, ap, ◌∙◌, arith, Some, None, length, map, Bor}
-use Rattle.std.proofs.Common.{cond, not, true≢false, Bool, ◌⊎◌, ⊎_elim}
+use Rattle.std.proofs.Common.{◌≡◌, ℕ, zero, suc, ◌+◌, ◌-◌, ◌<◌, List, [], ◌∷◌, ◌++◌, true, false, refl, sym, ap, ◌∙◌, arith, Some, None, length, map, Bor, cond}
+use Rattle.std.proofs.Common.{not, true≢false, Bool, ◌⊎◌, ⊎_elim}
 use Rattle.std.specs.Prelude.{Option, codes}
 use Rattle.tam_word.specs.Lists.{same_bytes}
 use Rattle.tam_graph.specs.declared.node.Node.{Node}
@@ -19,7 +19,9 @@ no-lines zero nodes text h = refl
 no-lines (suc lines) nodes text h = absurd (omega arith)
 
 -- what is read of the rest is what is read of the whole
-module _ (limit i : ℕ) (nodes : List Node) (rest : List ℕ) (whole : Option (List Node)) (before : i < limit) (so_far : nodes_read (limit - i) nodes rest ≡ whole) where
+module _ (limit i : ℕ) (nodes : List Node) (rest : List ℕ) (whole : Option (List Node)) (before : i < limit)
+    (so_far : nodes_read (limit - i) nodes rest ≡ whole) where
+  -- by its first line
   here : whole ≡ behind_line (nodes_read (limit - i - 1)) nodes (cut rest)
   here = sym so_far ∙ first-line (limit - i) nodes rest (omega arith)
 
@@ -28,6 +30,7 @@ module _ (limit i : ℕ) (nodes : List Node) (rest : List ℕ) (whole : Option (
   line-missing e = sym (here ∙ ap (behind_line (nodes_read (limit - i - 1)) nodes) e)
 
   module _ (line after : List ℕ) (parts : cut rest ≡ Some (line, after)) where
+    -- by what the line is
     at-line : whole ≡ behind_line (nodes_read (limit - i - 1)) nodes (Some (line, after))
     at-line = here ∙ ap (behind_line (nodes_read (limit - i - 1)) nodes) parts
 
@@ -61,7 +64,7 @@ pub lent-read : (nodes lent : List Node) (words held : List (Bor (List ℕ))) (l
     → lent ≡ nodes → words ≡ held → map (λ w. w.now) held ≡ words_of line → node_read nodes (words_of line) ≡ result
 lent-read nodes lent words held line result is same_nodes same_words cut_so =
     sym (is ∙ ap (λ ns. node_read ns (map (λ (w : Bor (List ℕ)). w.now) words)) same_nodes
-        ∙ ap (λ ws. node_read nodes (map (λ (w : Bor (List ℕ)). w.now) ws)) same_words ∙ ap (node_read nodes) cut_so)
+    ∙ ap (λ ws. node_read nodes (map (λ (w : Bor (List ℕ)). w.now) ws)) same_words ∙ ap (node_read nodes) cut_so)
 
 -- a node that was pushed stands at the end
 pub pushed : (old new : List Node) (n : Node) (ok err : Bool) → new ≡ cond ok (old ++ n ∷ []) old → ok ≡ not err → err ≡ false → new ≡ old ++ n ∷ []

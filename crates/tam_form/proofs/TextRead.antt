@@ -17,13 +17,14 @@ use Rattle.tam_form.proofs.Whole.{IsForm}
 use Rattle.tam_form.proofs.Fitting.{Fits, node-fits}
 use Rattle.tam_form.proofs.Plain.{is_word}
 use Rattle.tam_form.proofs.Cutting.{spaced, words-spaced, cut-spaced}
-use Rattle.tam_form.proofs.NodeRead.{first_word, rest_words, line-spaced, node-again, words-plain}
+use Rattle.tam_form.proofs.NodeRead.{rest_words, node_first, node_rest, line-spaced, node-again, words-plain}
 
 -- an element behind a list stands at its end
 take-before : (before after : List Node) → take (length before) (before ++ after) ≡ before
 take-before [] after = refl
 take-before (n ∷ before) after = ap (λ ns. n ∷ ns) (take-before before after)
 
+-- behind what stands before it
 get-behind : (before after : List Node) (n : Node) → slice_get (before ++ n ∷ after) (length before) ≡ Some n
 get-behind [] after n = refl
 get-behind (m ∷ before) after n = get-behind before after n
@@ -37,42 +38,48 @@ rest-some nodes earlier (Seq a b) h e = cc
 rest-some nodes earlier (Give k a) h e = cc
 rest-some nodes earlier k h e = true≢false (sym h)
 
+-- a line of one word has no others
 second-none : (w v : List ℕ) {ws : List (List ℕ)} → w ∷ ws ≡ v ∷ [] → ws ≡ []
 second-none w v e = cc
 
 module _ (nodes : List Node) (form : IsForm nodes) where
   -- so the node behind others is that of its place
   module _ (earlier later : List Node) (n : Node) (parts : nodes ≡ earlier ++ n ∷ later) where
+    -- it stands there
     here : slice_get nodes (length earlier) ≡ Some n
     here = ap (λ ns. slice_get ns (length earlier)) parts ∙ get-behind earlier later n
 
+    -- behind these
     before : take (length earlier) nodes ≡ earlier
     before = ap (take (length earlier)) parts ∙ take-before earlier (n ∷ later)
 
-    line : List ℕ
-    line = spaced (first_word (or_bytes n.name) n.kind) (rest_words nodes n.kind)
-
+    -- it fits
     fits-here : Fits earlier n
     fits-here = subst (λ l. Fits l n) before (node-fits nodes form.fit (length earlier) n here)
 
-    plain : all_of is_word (first_word (or_bytes n.name) n.kind ∷ rest_words nodes n.kind) ≡ true
+    -- its words have no blanks
+    plain : all_of is_word (node_first n ∷ node_rest nodes n) ≡ true
     plain = words-plain nodes form.fit form.names (length earlier) n here
 
-    words : words_of (spaced (first_word (or_bytes n.name) n.kind) (rest_words nodes n.kind)) ≡ first_word (or_bytes n.name) n.kind ∷ rest_words nodes n.kind
-    words = words-spaced (first_word (or_bytes n.name) n.kind) (rest_words nodes n.kind) plain
+    -- its line is cut into them
+    words : words_of (spaced (node_first n) (node_rest nodes n)) ≡ node_first n ∷ node_rest nodes n
+    words = words-spaced (node_first n) (node_rest nodes n) plain
 
-    not-end : same_bytes (spaced (first_word (or_bytes n.name) n.kind) (rest_words nodes n.kind)) (codes "end") ≡ false
-    not-end = same-differs (spaced (first_word (or_bytes n.name) n.kind) (rest_words nodes n.kind)) (codes "end") (λ e. let one = sym words
-        ∙ ap words_of e in rest-some nodes earlier n.kind fits-here.kind (second-none _ _ one))
+    -- it isn't the line `end`
+    not-end : same_bytes (spaced (node_first n) (node_rest nodes n)) (codes "end") ≡ false
+    not-end = same-differs (spaced (node_first n) (node_rest nodes n)) (codes "end")
+        (λ e. let one = sym words ∙ ap words_of e in rest-some nodes earlier n.kind fits-here.kind (second-none _ _ one))
 
-    cut-line : (after : List ℕ) → cut (line_at nodes n ++ after) ≡ Some (spaced (first_word (or_bytes n.name) n.kind) (rest_words nodes n.kind), after)
+    -- it is cut from what stands behind it
+    cut-line : (after : List ℕ) → cut (line_at nodes n ++ after) ≡ Some (spaced (node_first n) (node_rest nodes n), after)
     cut-line after =
         ap (λ l. cut (l ++ after)) (line-spaced nodes earlier (or_bytes n.name) n.kind fits-here.kind)
-        ∙ ap cut (append_assoc (spaced (first_word (or_bytes n.name) n.kind) (rest_words nodes n.kind)) (10 ∷ []) after)
-        ∙ cut-spaced (first_word (or_bytes n.name) n.kind) (rest_words nodes n.kind) after plain
+        ∙ ap cut (append_assoc (spaced (node_first n) (node_rest nodes n)) (10 ∷ []) after)
+        ∙ cut-spaced (node_first n) (node_rest nodes n) after plain
 
-    read-node : node_read earlier (words_of (spaced (first_word (or_bytes n.name) n.kind) (rest_words nodes n.kind))) ≡ Some n
-    read-node = ap (node_read earlier) words ∙ subst (λ l. node_read l (first_word (or_bytes n.name) n.kind ∷ rest_words nodes n.kind) ≡ Some n) before
+    -- and read
+    read-node : node_read earlier (words_of (spaced (node_first n) (node_rest nodes n))) ≡ Some n
+    read-node = ap (node_read earlier) words ∙ subst (λ l. node_read l (node_first n ∷ node_rest nodes n) ≡ Some n) before
         (node-again nodes form.fit form.names (length earlier) n here)
 
     -- a line is read, and then what stands behind it

@@ -30,6 +30,7 @@ plain-split (Alloc n) h = absurd (true≢false (sym h))
 plain-split (Fetch a i) h = absurd (true≢false (sym h))
 plain-split k h = refl
 
+-- by its number
 pub one-vertex : (c : Code) (x : ℕ) → is_plain (kind_at c x) ≡ true → vertices_at c x ≡ 1
 one-vertex c x h = rw (vertices_at, plain-split (kind_at c x) h) refl
 
@@ -38,9 +39,11 @@ pub vertices-nodes : (c : Code) (b : ℕ) → ((x : ℕ) → is_plain (kind_at c
 vertices-nodes c b h = sum-ones (vertices_at c) (nodes_in c b) (λ x. one-vertex c x (h x))
 
 module _ (nodes : List Node) (form : IsForm nodes) where
+  -- all nodes stand in the body
   in-body : nodes_in (main_code nodes) 0 ≡ node_numbers (main_code nodes)
   in-body = all-in-body (main_code nodes) (blocks-zero nodes form.fit)
 
+  -- which has as many vertices
   vertices : number_of_vertices (main_code nodes) 0 ≡ length nodes
   vertices = vertices-nodes (main_code nodes) 0 (kinds-plain nodes form.fit) ∙ (ap length in-body ∙ length-below (length nodes))
 

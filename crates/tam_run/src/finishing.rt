@@ -1,9 +1,10 @@
 // The end of a run: the lines behind its results.
-ghost use Rattle.std.specs.Prelude.{◌≡◌, ◌≢◌, ◌≤◌, length, filter};
+ghost use Rattle.std.specs.Prelude.{◌≡◌, length, filter};
 ghost use Rattle.tam_word.specs.Lists.{below};
 ghost use Rattle.tam_msgs.specs.declared.stop.Stop.TheVariants.{NoMemory};
 ghost use Rattle.tam_msgs.specs.Runs.{is_without};
 ghost use Rattle.tam_msgs.specs.Runs as Runs;
+ghost use Rattle.tam_run.specs.declared.outcome.Outcome.TheVariants as RunOutcome;
 ghost use Rattle.tam_run.specs.Writing.{told_of, outcome_of, Finishes, StopsSo, CountsRun};
 
 use crate::last_lines::{is_printed, quiet_lines, stopped_lines};
@@ -55,12 +56,15 @@ pub fn finish_quiet<K: Sink>(
     }
 }
 
-/// Writes the lines behind the results of a run that stopped, but for want of memory.
+/// Writes the lines behind the results of a run that stopped, and nothing for want of memory.
 pub fn finish_stopped<K: Sink>(alloc: Global, stop: Stop, counts: Counts, out: &mut K) -> Outcome
-    requires { stop ≢ NoMemory }
     ensures text { StopsSo stop counts (K.taken out.old) (K.taken out.new) result }
+    ensures no_memory { stop ≡ NoMemory → (result ≡ RunOutcome.Stopped NoMemory) × (K.taken out.new ≡ K.taken out.old) }
     ensures counted { CountsRun (K.faults out.old) (K.faults out.new) result }
 {
+    if let Stop::NoMemory = stop {
+        return Outcome::Stopped(Stop::NoMemory);
+    }
     match put_lines(stopped_lines(alloc, stop, counts), out) {
         Ok(()) => Outcome::Stopped(stop),
         Err(broken) => outcome_of(broken),

@@ -72,11 +72,7 @@ pub fn quiet_lines(
 }
 
 /// The lines behind the results of a run that stopped so.
-pub fn stopped_lines(
-    alloc: Global,
-    stop: Stop,
-    counts: Counts,
-) -> Result<Vec<Vec<u8>>, AllocError>
+pub fn stopped_lines(alloc: Global, stop: Stop, counts: Counts) -> Result<Vec<Vec<u8>>, AllocError>
     ensures value { IfOk result (λ lines. IfSome (end_of_stop stop) (λ how. texts_of lines.items ≡ line (end_text how) ∷ count_lines counts.events counts.activations counts.cells)) }
 {
     let mut lines = Vec::new(alloc);

@@ -5,12 +5,13 @@
 #![tactic(auto)]
 
 mod broken;
+mod finishing;
 mod last_lines;
 mod lines;
 mod outcome;
-mod finishing;
+mod whole_run;
 mod writing;
 
 use broken::Broken;
-
 pub use outcome::Outcome;
+pub use whole_run::run;

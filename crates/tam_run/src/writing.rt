@@ -7,8 +7,7 @@ ghost use Rattle.tam_msgs.specs.Runs.{result_line};
 ghost use Rattle.tam_run.specs.LineLists.{bytes_of};
 ghost use Rattle.tam_run.specs.Writing.{Puts, CountsPuts};
 
-use crate::Broken;
-use crate::lines;
+use crate::{Broken, lines};
 use std::alloc::{AllocError, Global};
 use tam_edge::{Failed, Sink, write_whole};
 
@@ -25,10 +24,7 @@ fn write_lines<K: Sink>(out: &mut K, lines: &[Vec<u8>]) -> Result<(), Failed>
 }
 
 /// Writes lines that were made, if they were.
-pub fn put_lines<K: Sink>(
-    made: Result<Vec<Vec<u8>>, AllocError>,
-    out: &mut K,
-) -> Result<(), Broken>
+pub fn put_lines<K: Sink>(made: Result<Vec<Vec<u8>>, AllocError>, out: &mut K) -> Result<(), Broken>
     ensures text { MatchResult made (λ lines. Puts (K.taken out.old) (K.taken out.new) (bytes_of lines.items) result) (λ _. (result ≡ Err Broken.NoMemory) × (K.taken out.new ≡ K.taken out.old)) }
     ensures counted { CountsPuts (K.faults out.old) (K.faults out.new) result }
 {

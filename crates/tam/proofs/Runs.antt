@@ -87,8 +87,11 @@ pub memory-done : (ask : Asked) (left : Option (List ℕ)) (old mid new : Option
 memory-done ask left old mid new faults faults_new status g args asks (front, rest, is, taken) said fault =
     said-done ask left old new faults faults_new status 11 (flat_map result_line front ++ no_memory_line) (no_memory_in_run front rest asks is) no_memory
     (λ n. ((said n).0, Appends-trans old mid new (flat_map result_line front) no_memory_line taken (said n).1))
-    (λ e. ((fault e).0, front-more old mid new (flat_map result_line front) no_memory_line [] (flat_map result_line front ++ no_memory_line) taken (fault e).1
-    (ap (λ l. flat_map result_line front ++ l) (sym (append-nil no_memory_line)))))
+    (λ e. (
+      (fault e).0,
+      front-more old mid new (flat_map result_line front) no_memory_line [] (flat_map result_line front ++ no_memory_line) taken (fault e).1
+          (ap (λ l. flat_map result_line front ++ l) (sym (append-nil no_memory_line))),
+    ))
 
 -- the limits where nothing is said are limits
 pub are-limits : AreLimits usual_limits

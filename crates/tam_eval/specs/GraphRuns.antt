@@ -38,8 +38,10 @@ is_enabled g w i x =
 -- the vertices that may fire after an event and might not before it, rising
 abbrev pub joins_at : Graph → World → World → ℕ → List (ℕ × ℕ)
 joins_at g before after i =
-    map (λ x. (i,
-        x)) (filter (λ x. elim (is_enabled g after i x) [ false ↦ false | true ↦ not (is_enabled g before i x) ]) (node_numbers (its_code g after i)))
+    map (λ x. (
+      i,
+      x,
+    )) (filter (λ x. elim (is_enabled g after i x) [ false ↦ false | true ↦ not (is_enabled g before i x) ]) (node_numbers (its_code g after i)))
 
 -- the same of all activations
 abbrev pub joins : Graph → World → World → List (ℕ × ℕ)
@@ -88,10 +90,14 @@ counted s rest = record s { order = rest; events = s.events + 1 }
 -- what was chosen is done, unless the budget is spent
 abbrev pub chosen : Graph → Limits → GraphState → Choice × List Item → Outcome GraphState
 chosen g limits s (Choose_quiet, rest) = Ended Quiet s
-chosen g limits s (Choose_run,
-    rest) = elim (s.events == limits.budget) [ true ↦ Ended (Budget_spent s.events) s | false ↦ fired_first g (counted s rest) s.ready ]
-chosen g limits s (Choose_delivery k,
-    rest) = elim (s.events == limits.budget) [ true ↦ Ended (Budget_spent s.events) s | false ↦ delivered_at g limits (counted s rest) k (slice_get s.pending k) ]
+chosen g limits s (
+  Choose_run,
+  rest,
+) = elim (s.events == limits.budget) [ true ↦ Ended (Budget_spent s.events) s | false ↦ fired_first g (counted s rest) s.ready ]
+chosen g limits s (
+  Choose_delivery k,
+  rest,
+) = elim (s.events == limits.budget) [ true ↦ Ended (Budget_spent s.events) s | false ↦ delivered_at g limits (counted s rest) k (slice_get s.pending k) ]
 
 -- something is ready
 abbrev pub some_ready : List (ℕ × ℕ) → Bool

@@ -24,7 +24,7 @@ Source g args K q x v (Ret f k) = (y a : ℕ) × (node_of g (f ∷ q) y ≡ Give
 Source g args K q x v (Alloc a) = (n : ℕ) × (v ≡ Array q x) × K (Fired q x (Word n ∷ []))
 Source g args K q x v (Fetch a b) =
     (r p : Path) × (y z i n c d e : ℕ) × (node_of g r y ≡ Store c d e) × (i < n) × K (Fired q x (Array p z ∷ Word i ∷ []))
-        × K (Fired r y (Array p z ∷ Word i ∷ v ∷ [])) × K (Fired p z (Word n ∷ []))
+    × K (Fired r y (Array p z ∷ Word i ∷ v ∷ [])) × K (Fired p z (Word n ∷ []))
 Source g args K q x v (Enter k) = (y c a w : ℕ) × (node_of g q y ≡ Switch c k a) × (block_of g q x ≡ chosen_branch (the_code g q) c w)
     × K (Fired q y (Word w ∷ v ∷ []))
 Source g args K q x v (Merge c k) = (y a : ℕ) × (node_of g q y ≡ Leave k a) × (slice_get (the_code g q).owners (block_of g q y) ≡ Some (Some c))

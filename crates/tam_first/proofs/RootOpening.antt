@@ -58,7 +58,7 @@ zip-upwards n (w ∷ ws) = ap (λ ps. (n, w) ∷ ps) (zip-upwards (suc n) ws)
 zip-numbered : (ws : List ℕ) → zip (below (length ws)) ws ≡ numbered 0 ws
 zip-numbered ws =
     let all : below (length ws) ≡ upwards 0 (length ws) = sym (below-upwards 0 (length ws)
-        ∙ ap below (let e : 0 + length ws ≡ length ws = omega arith in e)) in
+    ∙ ap below (let e : 0 + length ws ≡ length ws = omega arith in e)) in
     ap (λ ns. zip ns ws) all ∙ zip-upwards 0 ws
 
 -- an element stands at its place
@@ -288,5 +288,8 @@ module _ (g : Graph) (acc : IsAccepted g) (built : IsBuilt g) (args : List ℕ) 
       two d n e = omega (arith, e)
 
       one : (kw : ℕ × ℕ) → length (argument_message g kw) ≤ 1
-      one kw = omega (arith, length-map (λ x. Carry 0 x kw.1) (node_where c (is_param kw.0)),
-          length-first (λ x. is_param kw.0 (kind_at c x)) (node_numbers c))
+      one kw = omega (
+        arith,
+        length-map (λ x. Carry 0 x kw.1) (node_where c (is_param kw.0)),
+        length-first (λ x. is_param kw.0 (kind_at c x)) (node_numbers c),
+      )

@@ -49,8 +49,14 @@ module _ (g : Graph) (acc : IsAccepted g) (built : IsBuilt g) (args : List ℕ) 
       let ready : times x t.ready ≡ 0 = ap (λ ys. times x ys) none_ready in
       let pending : total (inlet x) t.pending ≡ 0 = ap (λ ms. total (inlet x) ms) none_pending in
       let sent : sent_by (kind_at c x) t.pending t.printed ≡ sent_by (kind_at c x) [] t.printed = ap (λ ms. sent_by (kind_at c x) ms t.printed) none_pending in
-      let one : one_if (nat_lt x (length c.nodes)) ≡ 1 = ap one_if (below-test x (length c.nodes) l) in omega (arith, kept.weights x, ready, pending, sent,
-          one)
+      let one : one_if (nat_lt x (length c.nodes)) ≡ 1 = ap one_if (below-test x (length c.nodes) l) in omega (
+        arith,
+        kept.weights x,
+        ready,
+        pending,
+        sent,
+        one,
+      )
 
   -- where the operands have words, a node with a value has one
   has-word-by : (x : ℕ) → x < length c.nodes → (d : Kind) → kind_at c x ≡ d → waits c t.words x ≡ 0 → sent_by d [] t.printed ≡ 0 → has_one t.words x ≡ true

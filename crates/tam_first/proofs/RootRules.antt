@@ -59,8 +59,10 @@ module _ (g : Graph) (acc : IsAccepted g) (built : IsBuilt g) (args : List ℕ) 
           let there = node-there c x (λ z. cc) in
           let left = before (Operate o a b) e there a (inl refl) p.0 p.2 in
           let right = before (Operate o a b) e there b (inr (inl refl)) p.1 p.3 in
-          subst (λ w. Holds g args (Val [] x (Word w))) (sym p.4) (holds-by g args (op_gives {a = p.0} {b = p.1} {o = o} e) (entered-at x,
-              (left, (right, tt))))
+          subst (λ w. Holds g args (Val [] x (Word w))) (sym p.4) (holds-by g args (op_gives {a = p.0} {b = p.1} {o = o} e) (
+            entered-at x,
+            (left, (right, tt)),
+          ))
       go (Seq a b) e p before =
           let there = node-there c x (λ z. cc) in
           let left = before (Seq a b) e there a (inl refl) u p.1 in

@@ -34,8 +34,11 @@ pub record RootState : Type 0 where
 
 -- the root alone, with these words
 abbrev pub root_world : Graph → List (Option ℕ) → World
-root_world g ws = record { activations = record { code = g.main; caller = outside; call = 0; entered = true ∷ []; words = ws } ∷ []; arrays = [];
-    makers = [] }
+root_world g ws = record {
+  activations = record { code = g.main; caller = outside; call = 0; entered = true ∷ []; words = ws } ∷ [];
+  arrays = [];
+  makers = [];
+}
 
 -- a node of the root
 abbrev pub of_root : ℕ → ℕ × ℕ

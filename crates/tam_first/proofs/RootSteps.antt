@@ -242,8 +242,12 @@ module _ (g : Graph) (acc : IsAccepted g) (built : IsBuilt g) (args : List ℕ) 
           none : word t.words x ≡ None
           none =
               let one : one_if (x == x) ≡ 1 = ap one_if (self-eq x) in
-              has-none t.words x (counts-none (has_one t.words x) (omega (arith, less-weights (Carry 0 x v) q x, one,
-                  counts-most (nat_lt x (length c.nodes)))))
+              has-none t.words x (counts-none (has_one t.words x) (omega (
+                arith,
+                less-weights (Carry 0 x v) q x,
+                one,
+                counts-most (nat_lt x (length c.nodes)),
+              )))
 
       -- a result is printed
       prints-next : (x v : ℕ) → slice_get t.pending k ≡ Some (Carry outside x v) → IsGiven c t.words x v → Goes t

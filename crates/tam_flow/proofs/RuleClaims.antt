@@ -51,7 +51,7 @@ module _ (g : Graph) (all : Partitions) (args : List ℕ) (s : State) (acc : IsA
   -- the words of a node of a known kind
   pub words-of : (i y : ℕ) (k : Kind) (vs : List Value) → kind_of g s.world i y ≡ k
       → HaveWords g s.world i (operands_of (its_code g s.world i) (kind_of g s.world i y)) vs
-          → HaveWords g s.world i (operands_of (its_code g s.world i) k) vs
+      → HaveWords g s.world i (operands_of (its_code g s.world i) k) vs
   words-of i y k vs e h = subst (λ z. HaveWords g s.world i (operands_of (its_code g s.world i) z) vs) e h
 
   -- where a word of a node of a known kind comes from

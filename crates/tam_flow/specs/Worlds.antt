@@ -165,8 +165,11 @@ accessed w s i reader v NoArray = Faulted (Outside_cells s i 0)
 abbrev pub delivered : World → Message → Delivery
 delivered w (Carry f x v) = elim (f == outside) [ true ↦ Printed x v | false ↦ Went (changes (got w f x v)) ]
 delivered w (Begin c f x) = Went (sends_only (record w { activations = w.activations ++ begun c f x ∷ [] }) (Carry f x (length w.activations) ∷ []))
-delivered w (Make n f x) = Went (sends_only (record w { arrays = with_array w.arrays n; makers = w.makers
-    ++ (f, x) ∷ [] }) (Carry f x (length w.arrays) ∷ []))
+delivered w (Make n f x) = Went (sends_only (record w {
+  arrays = with_array w.arrays n;
+  makers = w.makers
+      ++ (f, x) ∷ [];
+}) (Carry f x (length w.arrays) ∷ []))
 delivered w (Ask_cell a i f x s) = accessed w s i (f, x) 0 (fetched_from w.arrays a i (f, x))
 delivered w (Put_cell a i v s) = accessed w s i (0, 0) v (stored_into w.arrays a i v s)
 

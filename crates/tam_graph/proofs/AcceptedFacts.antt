@@ -34,8 +34,11 @@ module _ (g : Graph) (acc : IsAccepted g) (n : ℕ) (l : n < length g.codes) whe
       let in-node = map-in (λ (f : CheckCause). (n, x, f)) f (faults_at g n x) a in
       let in-code = flat_map-in (λ (x : ℕ). map (λ (f : CheckCause). (n, x, f)) (faults_at g n x)) x (n, x, f) (node_numbers (code_of g n))
       (below-in x (length (code_of g n).nodes) m) in-node in
-      let in-graph = flat_map-in (λ (n : ℕ). flat_map (λ (x : ℕ). map (λ (f : CheckCause). (n, x, f)) (faults_at g n x)) (node_numbers (code_of g n))) n (n,
-          x, f) (below (length g.codes)) (below-in n (length g.codes) l) in-code in
+      let in-graph = flat_map-in (λ (n : ℕ). flat_map (λ (x : ℕ). map (λ (f : CheckCause). (n, x, f)) (faults_at g n x)) (node_numbers (code_of g n))) n (
+        n,
+        x,
+        f,
+      ) (below (length g.codes)) (below-in n (length g.codes) l) in-code in
       none (faults_of g) acc.no_fault in-graph
     where
       none : (fs : List (ℕ × ℕ × CheckCause)) → fs ≡ [] → In (n, x, f) fs → ⊥

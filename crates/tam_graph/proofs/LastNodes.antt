@@ -41,7 +41,7 @@ last-none nodes h (suc n) e x l = go (has_hash h (name_of (slice_get nodes n))) 
   where
     go : (t : Bool) → has_hash h (name_of (slice_get nodes n)) ≡ t
         → (last_below nodes h n ≡ None → (x : ℕ) → x < n → has_hash h (name_of (slice_get nodes x)) ≡ false)
-            → has_hash h (name_of (slice_get nodes x)) ≡ false
+        → has_hash h (name_of (slice_get nodes x)) ≡ false
     go true p i = absurd (none-some n (sym (rw (last_below, p) at e)))
     go false p i = elim (last-or_before x n l) [ inl b ↦ i (rw (last_below, p) at e) x b | inr same ↦ rw same p ]
 

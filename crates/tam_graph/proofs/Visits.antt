@@ -116,7 +116,7 @@ blocks-below limit (suc fuel) c b l h x a = at (visited fuel c b (AtNode x) a) (
 
     at : Visited fuel c b (AtNode x)
         → ((d : ℕ) → d < limit → ((o : ℕ × Option ℕ) → In o (in_opening_order fuel c d) → o.0 < limit) → In (AtNode x) (visits fuel c d)
-            → block_at c x < limit)
+        → block_at c x < limit)
         → block_at c x < limit
     at (Here z m same) deep = let is : x ≡ z = cc in rw is (in-block z m)
     at (Behind z m k) deep = within (in-branches (visits fuel c) z (kind_at c z) x k)

@@ -30,8 +30,14 @@ refused : map faults_of (
     ≡ ((0, 0, Main_type) ∷ []) ∷ ((0, 0, Place_range) ∷ []) ∷ ((0, 2, Place_twice) ∷ []) ∷ ((0, 2, Depth_mismatch) ∷ []) ∷ ((0, 0, Cycle) ∷ []) ∷ []
 refused = refl
 
-missing_arg : faults_of (record { codes = record { name = main_name; nodes = plain 0 (Call 1) ∷ []; owners = None ∷ [] } ∷ record { name = main_name;
-    nodes = plain 0 (Param 0) ∷ []; owners = None ∷ [] } ∷ []; main = 0 }) ≡ (0, 0, Place_missing) ∷ []
+missing_arg : faults_of (record {
+  codes = record { name = main_name; nodes = plain 0 (Call 1) ∷ []; owners = None ∷ [] } ∷ record {
+    name = main_name;
+    nodes = plain 0 (Param 0) ∷ [];
+    owners = None ∷ [];
+  } ∷ [];
+  main = 0;
+}) ≡ (0, 0, Place_missing) ∷ []
 missing_arg = refl
 
 -- an array's fetch may feed its own index: there is no edge from an ask to its answer

@@ -38,8 +38,11 @@ cyclic_both = (refl, refl)
 
 -- a fetch that feeds its own index: there is no edge from an ask to its answer
 abbrev pub fed_by_itself : Code
-fed_by_itself = record { name = main_name;
-    nodes = deep 0 (Const 1) ∷ deep 1 (Alloc 0) ∷ deep 0 (Fetch 1 3) ∷ deep 0 (Operate Add 2 2) ∷ deep 0 (Give 0 2) ∷ []; owners = None ∷ [] }
+fed_by_itself = record {
+  name = main_name;
+  nodes = deep 0 (Const 1) ∷ deep 1 (Alloc 0) ∷ deep 0 (Fetch 1 3) ∷ deep 0 (Operate Add 2 2) ∷ deep 0 (Give 0 2) ∷ [];
+  owners = None ∷ [];
+}
 
 fed_by_itself_both : (has_no_cycle (block_graph fed_by_itself 0).edges ≡ true) × (on_cycle fed_by_itself 0 ≡ [])
 fed_by_itself_both = (refl, refl)

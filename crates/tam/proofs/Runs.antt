@@ -7,7 +7,7 @@ use Rattle.std.proofs.KnownBytes.{Appends-trans}
 use Rattle.std.proofs.lemmas.List.{append-nil}
 use Rattle.std.proofs.lemmas.Option.{get_or_from_slice_get}
 use Rattle.tam_edge.specs.Faults.{CountsFault}
-use Rattle.tam_edge.specs.Whole.{AppendsFront}
+use Rattle.tam_edge.specs.Whole.{AppendsFront, GivesAll, IsLonger}
 use Rattle.tam_word.proofs.Tests.{number-eq, number-differs}
 use Rattle.tam_graph.specs.Graphs.{Graph, AreArguments, code_of, params_of}
 use Rattle.tam_msgs.specs.declared.stop.Stop.{Stop}
@@ -17,9 +17,9 @@ use Rattle.tam_msgs.specs.Messages.{AreLimits}
 use Rattle.tam_run.specs.Writing.{WritesStopped, AppendsFirstLines}
 use Rattle.tam_run.proofs.Fronts.{front-more}
 use Rattle.tam.specs.declared.usage_cause.UsageCause.TheVariants.{ArgsCount}
-use Rattle.tam.specs.Words.{Asked}
-use Rattle.tam.specs.Answers.{Answer, AsksRun, ran, wrong_count, no_memory_in_run, run_of, usual_limits, usage_line, no_memory_line}
-use Rattle.tam.specs.Headline.{Answered, BrokeOff, IsDone, IsRead, IsStatus, not_written, success, usage, no_memory}
+use Rattle.tam.specs.Words.{Asked, Job}
+use Rattle.tam.specs.Answers.{Answer, AsksRun, Spells, ran, wrong_count, no_memory_in_run, too_long, untold, run_of, usual_limits, most_bytes, usage_line, too_long_line, no_memory_line}
+use Rattle.tam.specs.Headline.{Answered, BrokeOff, IsDone, IsFile, ReadsToEnd, IsStatus, not_written, success, usage, no_memory}
 
 -- one word for each param of `main`
 pub are-arguments : (g : Graph) (args : List ℕ) (main params : ℕ) → main ≡ g.main → params ≡ params_of (code_of g main) → length args ≡ params
@@ -34,10 +34,16 @@ pub same-params : (g : Graph) (main params : ℕ) → main ≡ g.main → params
 same-params g main params m p = p ∙ ap (λ n. params_of (code_of g n)) m
 
 -- the run is asked for
-pub asks-run : (ask : Asked) (left : Option (List ℕ)) (g : Graph) (args : List ℕ) → IsRead ask left g args → length args ≡ params_of (code_of g g.main)
-    → AsksRun ask left g args
-asks-run ask left g args read one =
-    record { job = read.job; bytes = read.bytes; told = read.told; few = read.few; spelled = read.spelled; one_each = one }
+pub asks-run : (ask : Asked) (left : Option (List ℕ)) (g : Graph) (args bytes : List ℕ) → IsFile ask left args bytes → Spells bytes g
+    → length args ≡ params_of (code_of g g.main) → AsksRun ask left g args
+asks-run ask left g args bytes file spelled one =
+    record { job = file.job; bytes = bytes; told = file.told; few = file.few; spelled = spelled; one_each = one }
+
+-- a status that was said isn't another
+pub not-three : {T : Type 0} (status code : ℕ) → code ≢ 3 → (status ≢ 10 → (status ≡ code) × T) → status ≢ 3
+not-three status code n said e =
+    let m : status ≢ 10 = λ t. absurd (omega (arith, e, t)) in
+    n (sym (said m).0 ∙ e)
 
 module _ (ask : Asked) (left : Option (List ℕ)) (old new : Option (List ℕ)) (faults faults_new : ℕ) where
   -- a line was said, or broken off
@@ -96,3 +102,31 @@ memory-done ask left old mid new faults faults_new status g args asks (front, re
 -- the limits where nothing is said are limits
 pub are-limits : AreLimits usual_limits
 are-limits = record { some_frame = omega arith; few_frames = omega arith; few_cells = omega arith; budget = omega arith }
+
+-- of a file whose content isn't told the answer is some answer
+untold-done : (name args bytes : List ℕ) (status : ℕ) (old new : Option (List ℕ)) (faults faults_new : ℕ)
+    → IsDone (Job name args) (Some bytes) status old new faults faults_new → IsDone (Job name args) None status old new faults faults_new
+untold-done name args bytes status old new faults faults_new d = record {
+  answered = λ n. let a = d.answered n in (a.0, untold refl refl, a.2);
+  broken = λ e. let b = d.broken e in ((b.0.0, b.0.1, untold refl refl, b.0.3), b.1);
+  statuses = d.statuses;
+}
+
+-- what was done with the bytes that were given, was done with the file
+pub file-done : (name args bytes : List ℕ) (status : ℕ) (left left_new old new : Option (List ℕ)) (faults faults_new : ℕ) → GivesAll left left_new bytes
+    → IsDone (Job name args) (Some bytes) status old new faults faults_new → IsDone (Job name args) left status old new faults faults_new
+file-done name args bytes status None left_new old new faults faults_new h d = untold-done name args bytes status old new faults faults_new d
+file-done name args bytes status (Some before) None old new faults faults_new h d = absurd h
+file-done name args bytes status (Some before) (Some now) old new faults faults_new h d =
+    subst (λ b. IsDone (Job name args) (Some b) status old new faults faults_new) (sym h.0) d
+
+-- and nothing is left of it
+pub file-read : (left left_new : Option (List ℕ)) (bytes : List ℕ) → GivesAll left left_new bytes → ReadsToEnd left left_new
+file-read None left_new bytes h = tt
+file-read (Some before) None bytes h = absurd h
+file-read (Some before) (Some now) bytes h = ap Some h.1
+
+-- a file of too many bytes
+pub longer-answer : (name args : List ℕ) (left : Option (List ℕ)) → IsLonger left most_bytes → Answer (Job name args) left 1 too_long_line
+longer-answer name args None h = untold refl refl
+longer-answer name args (Some bytes) h = too_long refl refl h

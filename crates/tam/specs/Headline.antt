@@ -1,15 +1,15 @@
 -- What the top call makes sure of, by what is asked and by what is left of the file: its answer, and that runs are right.
-use Rattle.std.specs.Prelude.{ℕ, ◌≡◌, ◌≢◌, ◌≤◌, ◌⊎◌, List, [], ◌++◌, flat_map, map, length, Option, Some, String}
+use Rattle.std.specs.Prelude.{ℕ, ◌≡◌, ◌≢◌, ◌≤◌, ◌⊎◌, List, [], ◌++◌, flat_map, map, length, Option, None, Some, String, ⊤}
 use Rattle.std.specs.declared.alloc.Global.{Global}
 use Rattle.std.specs.String.{string_bytes}
-use Rattle.std.specs.Io.KnownBytes.{Appends, IsAtEnd}
+use Rattle.std.specs.Io.KnownBytes.{Appends}
 use Rattle.tam_edge.specs.Faults.{Rose, CountsFault}
 use Rattle.tam_edge.specs.Whole.{AppendsFront}
 use Rattle.tam_graph.specs.Graphs.{Graph}
 use Rattle.tam_msgs.specs.Runs.{Quiet, result_line, text_of, missing_of}
 use Rattle.tam_eval.specs.Headline.{IsRight}
 use Rattle.tam.specs.Words.{Asked, Job, Names, asked, name_of}
-use Rattle.tam.specs.Answers.{Answer, AsksRun, Spells, run_of, usual_limits, most_bytes, read_fault_line, no_memory_line}
+use Rattle.tam.specs.Answers.{Answer, AsksRun, run_of, usual_limits, most_bytes, read_fault_line, no_memory_line}
 
 -- what the words ask for
 abbrev pub ask_of : List (String Global) → Asked
@@ -23,21 +23,24 @@ Answered ask left status old new = (text : List ℕ) × Answer ask left status t
 abbrev pub BrokeOff : Asked → Option (List ℕ) → Option (List ℕ) → Option (List ℕ) → Type 0
 BrokeOff ask left old new = (status : ℕ) × (text : List ℕ) × Answer ask left status text × AppendsFront old new text
 
+-- of told bytes none is left
+abbrev pub ReadsToEnd : Option (List ℕ) → Option (List ℕ) → Type 0
+ReadsToEnd None new = ⊤
+ReadsToEnd (Some bytes) new = new ≡ Some []
+
 -- what a call leaves of the files: nothing of a name that isn't asked for changes, and where its count changed, a read fault is answered
 pub record KeepsFiles (ask : Asked) (status : ℕ) (left left_new : List ℕ → Option (List ℕ)) (faults faults_new : List ℕ → ℕ) : Type 0 where
   pub other_left : (other : List ℕ) → ¬ Names ask other → left_new other ≡ left other
   pub other_faults : (other : List ℕ) → ¬ Names ask other → faults_new other ≡ faults other
   pub read_fault : status ≡ 3 → Rose (faults (name_of ask)) (faults_new (name_of ask))
   pub fault_told : faults_new (name_of ask) ≢ faults (name_of ask) → (status ≡ 3) ⊎ (status ≡ 10)
-  pub read_whole : status ≡ 0 → IsAtEnd (left_new (name_of ask))
+  pub read_whole : status ≡ 0 → ReadsToEnd (left (name_of ask)) (left_new (name_of ask))
 
--- the bytes that are left of the file that is asked for are the text of the graph
-pub record IsRead (ask : Asked) (left : Option (List ℕ)) (g : Graph) (args : List ℕ) : Type 0 where
+-- a run on the arguments is asked for, and these bytes, not too many, are left of the file
+pub record IsFile (ask : Asked) (left : Option (List ℕ)) (args bytes : List ℕ) : Type 0 where
   pub job : ask ≡ Job (name_of ask) args
-  pub bytes : List ℕ
   pub told : left ≡ Some bytes
   pub few : length bytes ≤ most_bytes
-  pub spelled : Spells bytes g
 
 -- the statuses that come
 pub data IsStatus : ℕ → Type 0 where

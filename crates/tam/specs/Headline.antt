@@ -72,3 +72,9 @@ pub record IsDone (ask : Asked) (left : Option (List ℕ)) (status : ℕ) (old n
   pub answered : status ≢ 10 → Answered ask left status old new
   pub broken : status ≡ 10 → BrokeOff ask left old new × CountsFault faults faults_new
   pub statuses : IsStatus status
+
+-- all of a call but its runs: by what is asked, the answer, and what was left of files and sink
+pub record Does (ask : Asked) (status : ℕ) (left left_new : List ℕ → Option (List ℕ)) (faults faults_new : List ℕ → ℕ)
+    (old new : Option (List ℕ)) (written written_new : ℕ) : Type 0 where
+  pub done : IsDone ask (left (name_of ask)) status old new written written_new
+  pub files : KeepsFiles ask status left left_new faults faults_new

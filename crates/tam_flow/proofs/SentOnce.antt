@@ -209,7 +209,7 @@ module _ (g : Graph) (args : List ℕ) (accepted : IsAccepted g) (all : Partitio
 
   module _ (valid : are_valid g all ≡ true) (s : State) (sound : IsSoundState g args s) (once : IsOnceState g args all s) where
     -- where one node fires, it is one block's and one class's
-    one-class : (n b c d e y z : ℕ) → n < length g.codes → b < length (code_of g n).owners
+    pub one-class : (n b c d e y z : ℕ) → n < length g.codes → b < length (code_of g n).owners
         → y < length (block_graph (code_of g n) d).vertices → z < length (block_graph (code_of g n) b).vertices
         → (vertex_at (block_graph (code_of g n) d) y).inlet ≡ false → (vertex_at (block_graph (code_of g n) b) z).inlet ≡ false
         → (vertex_at (block_graph (code_of g n) d) y).node ≡ (vertex_at (block_graph (code_of g n) b) z).node

@@ -220,7 +220,7 @@ module _ (g : Graph) (args : List ℕ) where
         (pairs-more (λ e d. e.0 ≡ d.0 → ⊥) (λ e d. AllByRecursion (λ m. AllByRecursion (WordsApart m) (argument_message g d)) (argument_message g e))
         arguments-apart (zip (counted 0 (length args)) args) (places-apart 0 args)));
     causes = all-flat (IsCaused g all (initial g args)) (argument_message g) (zip (below (length args)) args) (caused (zip (below (length args)) args));
-    words = λ f x u h takes. absurd (none-has f (has-there (opening g) f x u h) h);
+    words = λ f x u h takes. absurd (none-has f x u (has-there (opening g) f x u h) h);
     carried = λ f x u h inside. absurd (true≢false (sym h.2));
     waits = λ a j rs e. absurd (none-some e);
   }
@@ -242,8 +242,8 @@ module _ (g : Graph) (args : List ℕ) where
           at_root f x k p q = subst (λ n. IsThere (opening g) n × WordCause g all (initial g args) n x) (sym p)
               (omega arith, inl (k, q, refl))
 
-      none-has : (f : ℕ) {x u : ℕ} → IsThere (opening g) f → word_of (opening g) f x ≡ u ∷ [] → ⊥
-      none-has f t h = let e : f ≡ 0 = omega (arith, t) in nothing (subst (λ n. word_of (opening g) n _ ≡ _ ∷ []) e h)
+      none-has : (f x u : ℕ) → IsThere (opening g) f → word_of (opening g) f x ≡ u ∷ [] → ⊥
+      none-has f x u t h = let e : f ≡ 0 = omega (arith, t) in nothing (subst (λ n. word_of (opening g) n x ≡ u ∷ []) e h)
         where
           nothing : {v : ℕ} → [] ≡ v ∷ [] → ⊥
           nothing r = cc

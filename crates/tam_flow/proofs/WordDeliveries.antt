@@ -49,7 +49,7 @@ empty-eq : {rs qs : List Reader} → Empty rs ≡ Empty qs → rs ≡ qs
 empty-eq q = cc
 
 -- a filled cell has no readers
-filled-empty : {rs : List Reader} {u t : ℕ} → Filled u t ≡ Empty rs → ⊥
+pub filled-empty : {rs : List Reader} {u t : ℕ} → Filled u t ≡ Empty rs → ⊥
 filled-empty q = cc
 
 module _ (g : Graph) (args : List ℕ) (accepted : IsAccepted g) (all : Partitions) where

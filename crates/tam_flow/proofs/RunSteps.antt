@@ -145,7 +145,7 @@ module _ (g : Graph) (args : List ℕ) (accepted : IsAccepted g) (all : Partitio
   pub fires-first : (y : ℕ) → In y (run_done g all s i b c) → y < length (block_of_act g s i b).vertices → (vertex_at (block_of_act g s i b) y).inlet ≡ false
       → HasFired g all s i (vertex_at (block_of_act g s i b) y).node → ⊥
   fires-first y h l none f =
-      let both = one-class g args accepted all valid s sound once (activation_at s.world i).code b c f.block f.class f.place y
+      let both = one-class g args accepted all valid (activation_at s.world i).code b c f.block f.class f.place y
       (sound.world.codes i run.there) (run-block g args accepted all s i b c valid sound run)
       (subst (λ n. f.place < length (block_graph (code_of g n) f.block).vertices) f.is_code f.within) l
       (subst (λ n. (vertex_at (block_graph (code_of g n) f.block) f.place).inlet ≡ false) f.is_code f.no_inlet) none

@@ -154,7 +154,7 @@ module _ (g : Graph) (args : List ℕ) (accepted : IsAccepted g) (all : Partitio
         v = record s { printed = out; fault = q; arrived = m ∷ s.arrived }
 
   -- so each delivery keeps it
-  words-delivered : (valid : are_valid g all ≡ true) (s : State) (sound : IsSoundState g args s) (once : IsOnceState g args all s) → IsWordState g all s
+  pub words-delivered : (valid : are_valid g all ≡ true) (s : State) (sound : IsSoundState g args s) (once : IsOnceState g args all s) → IsWordState g all s
       → length s.world.activations < 2 ^ 32 → (m : ℕ) (x : Message) → slice_get s.sent m ≡ Some x → has s.arrived m ≡ false
       → IsWordState g all (after_delivery s m (delivered s.world x))
   words-delivered valid s sound once done few m (Carry f y u) is_sent new = go (f == outside) refl

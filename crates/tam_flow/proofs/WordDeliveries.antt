@@ -45,7 +45,7 @@ one-eq : {u v : ℕ} → u ∷ [] ≡ v ∷ [] → u ≡ v
 one-eq q = cc
 
 -- readers of one cell
-empty-eq : {rs qs : List Reader} → Empty rs ≡ Empty qs → rs ≡ qs
+pub empty-eq : {rs qs : List Reader} → Empty rs ≡ Empty qs → rs ≡ qs
 empty-eq q = cc
 
 -- a filled cell has no readers

@@ -39,7 +39,7 @@ pub record IsFilledState (s : State) : Type 0 where
       → has s.arrived m ≡ true → has s.arrived n ≡ true → m ≡ n
 
 -- where cells stay and no access is new
-filled-same : (s v : State) (New : ℕ → Message → Type 0) → Continues s v New → ((n a j u t : ℕ) → New n (Put_cell a j u t) → ⊥)
+pub filled-same : (s v : State) (New : ℕ → Message → Type 0) → Continues s v New → ((n a j u t : ℕ) → New n (Put_cell a j u t) → ⊥)
     → ((n a j f x t : ℕ) → New n (Ask_cell a j f x t) → ⊥) → ((a j : ℕ) (c : Cell) → cell_at s.world a j ≡ Some c → cell_at v.world a j ≡ Some c)
     → s.fault ≡ None → IsFilledState s → IsFilledState v
 filled-same s v New on no_put no_ask cells whole h = record {
@@ -56,7 +56,7 @@ filled-same s v New on no_put no_ask cells whole h = record {
     later a j f x (inr r) = inr (r.0, r.1, cells a j (Filled r.0 r.1) r.2, (r.3.0, on.sent r.3.0 (Carry f x r.0) r.3.1))
 
 -- behind a fault nothing is asked
-filled-fault : (v : State) (q : Fault) → v.fault ≡ Some q → IsFilledState v
+pub filled-fault : (v : State) (q : Fault) → v.fault ≡ Some q → IsFilledState v
 filled-fault v q e = record {
   stored = λ w n a j u t k r. absurd (none-some (sym w ∙ e));
   fetched = λ w n a j f x t k r. absurd (none-some (sym w ∙ e));
@@ -82,7 +82,7 @@ module _ (s : State) (before : (n : ℕ) → has s.arrived n ≡ true → n < le
   none-stored n a j u t rs was e q = filled-empty (some-eq (sym (h.stored whole n a j u t e q) ∙ was))
 
   -- a fetch of a cell that has a word
-  filled-now : (a j f x t u e : ℕ) → slice_get s.sent m ≡ Some (Ask_cell a j f x t) → cell_at s.world a j ≡ Some (Filled u e)
+  pub filled-now : (a j f x t u e : ℕ) → slice_get s.sent m ≡ Some (Ask_cell a j f x t) → cell_at s.world a j ≡ Some (Filled u e)
       → IsFilledState (after_delivery s m (Went (sends_only s.world (Carry f x u ∷ []))))
   filled-now a j f x t u e is_sent was = record {
     stored = λ w n b i y d p q. ⊎_elim (λ r. h.stored whole n b i y d r.0 r.1) (λ r. absurd (ask-put r.1)) (on.back n (Put_cell b i y d) p q);
@@ -135,7 +135,7 @@ module _ (s : State) (before : (n : ℕ) → has s.arrived n ≡ true → n < le
       served-later here b i f y (inr r) = inr (r.0, r.1, word-stays b i r.0 r.1 r.2, (r.3.0, on.sent r.3.0 (Carry f y r.0) r.3.1))
 
   -- a fetch of an empty cell
-  filled-deferred : (a j f x t : ℕ) (rs : List Reader) → slice_get s.sent m ≡ Some (Ask_cell a j f x t) → cell_at s.world a j ≡ Some (Empty rs)
+  pub filled-deferred : (a j f x t : ℕ) (rs : List Reader) → slice_get s.sent m ≡ Some (Ask_cell a j f x t) → cell_at s.world a j ≡ Some (Empty rs)
       → IsFilledState (after_delivery s m (Went (changes (with_new_cell s.world a j (Empty (rs ++ (f, x) ∷ []))))))
   filled-deferred a j f x t rs is_sent was = record {
     stored = λ w n b i y d p q. ⊎_elim (λ r. word-stays a j rs was c [] b i y d (h.stored whole n b i y d r.0 r.1)) (λ r. absurd (ask-put r.1)) (go.back n (Put_cell b i y d) p q);
@@ -167,7 +167,7 @@ module _ (s : State) (before : (n : ℕ) → has s.arrived n ≡ true → n < le
       this b i k z r = subst (λ n. IsServed v n i k z) r.0 (subst (λ n. IsServed v a n k z) r.1 (subst (λ n. IsServed v a j n z) r.2 (subst (λ n. IsServed v a j f n) r.3 new)))
 
   -- a store into an empty cell
-  filled-stored : (a j u t : ℕ) (rs : List Reader) → slice_get s.sent m ≡ Some (Put_cell a j u t) → cell_at s.world a j ≡ Some (Empty rs)
+  pub filled-stored : (a j u t : ℕ) (rs : List Reader) → slice_get s.sent m ≡ Some (Put_cell a j u t) → cell_at s.world a j ≡ Some (Empty rs)
       → IsFilledState (after_delivery s m (Went (sends_only (with_new_cell s.world a j (Filled u t)) (answers u rs))))
   filled-stored a j u t rs is_sent was = record {
     stored = λ w n b i y d p q. ⊎_elim (λ r. word-stays a j rs was (Filled u t) (answers u rs) b i y d (h.stored whole n b i y d r.0 r.1))

@@ -63,6 +63,26 @@ word-act w i x u h = go (slice_get w.activations i) refl
 abbrev pub CallersThere : World → Type 0
 CallersThere w = (j : ℕ) → IsThere w j → ((activation_at w j).caller == outside) ≡ false → IsThere w (activation_at w j).caller
 
+-- other words for what fired, was sent and has arrived
+pub kept-same : (g : Graph) (w : World) (F G : ℕ → ℕ → Type 0) (S T A B : Message → Type 0) → ((i x : ℕ) → F i x → G i x) → ((i x : ℕ) → G i x → F i x)
+    → ((m : Message) → S m → T m) → ((m : Message) → A m → B m) → IsKept g w F S A → IsKept g w G T B
+kept-same g w F G S T A B fg gf st ab kept = record {
+  there = λ i x h. kept.there i x (gf i x h);
+  open_block = λ i x h. kept.open_block i x (gf i x h);
+  done = λ i x h. done i x (kept.done i x (gf i x h));
+  sources = λ i y u h. ⊎_elim (λ k. inl (gave i y u k)) (λ k. inr (ab (Carry i y u) k.0, k.1)) (kept.sources i y u h);
+  blocks = λ i b t h. ⊎_elim inl (λ k. inr (entered i b k)) (kept.blocks i b t h);
+}
+  where
+    done : (i x : ℕ) → HasDone g w S i x → HasDone g w T i x
+    done i x h = record { words = h.words; have = h.have; sent = λ m a. st m (h.sent m a); gave = h.gave; entered = h.entered }
+
+    gave : (i y u : ℕ) → IsGift g w F i y u → IsGift g w G i y u
+    gave i y u k = record { node = k.node; words = k.words; fired = fg i k.node k.fired; have = k.have; among = k.among; word = k.word }
+
+    entered : (i b : ℕ) → IsEntered g w F i b → IsEntered g w G i b
+    entered i b k = record { node = k.node; words = k.words; fired = fg i k.node k.fired; have = k.have; among = k.among }
+
 module _ (g : Graph) (w v : World) (on : Onward w v) where
   -- a gift stays one
   pub gift-later : (F G : ℕ → ℕ → Type 0) → ((i x : ℕ) → F i x → G i x) → (i y u : ℕ) → IsThere w i → IsGift g w F i y u → IsGift g v G i y u

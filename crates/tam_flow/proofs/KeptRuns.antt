@@ -197,7 +197,7 @@ module _ (g : Graph) (args : List ℕ) (accepted : IsAccepted g) (all : Partitio
           fresh (subst (λ x. In x done) (fires-once the_code b z y (places z m) within k none h) m)
 
       -- one more place is done
-      kept-one : CallersThere e.world → (In y done → ⊥) → ((z : ℕ) → In z done → z < length the_block.vertices)
+      pub kept-one : CallersThere e.world → (In y done → ⊥) → ((z : ℕ) → In z done → z < length the_block.vertices)
           → IsKeptRun (y ∷ done) (then_one g the_block i e y)
       kept-one callers fresh places = go (vertex_at the_block y).inlet refl
         where

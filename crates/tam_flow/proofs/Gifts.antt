@@ -108,7 +108,7 @@ words-put x u y a =
 
 module _ (w : World) (i : ℕ) where
   -- one node gets a word
-  got-one : (x u : ℕ) → HaveGot w (got w i x u) i (x ∷ []) u
+  pub got-one : (x u : ℕ) → HaveGot w (got w i x u) i (x ∷ []) u
   got-one x u = record {
     frames = record {
       as_many = length-changed_at i (with_word x u) w.activations;

@@ -19,22 +19,20 @@ use Rattle.tam_flow.proofs.ActivationCounts.{size}
 use Rattle.tam_flow.proofs.Changes.{changed-cases}
 use Rattle.tam_flow.proofs.CellChanges.{none-some}
 use Rattle.tam_flow.proofs.Deliveries.{some-below, there-some}
+use Rattle.tam_flow.proofs.Givers.{is_received}
 use Rattle.tam_flow.proofs.Growing.{with_begun}
 use Rattle.tam_flow.proofs.Moves.{push-cases}
 use Rattle.tam_flow.proofs.Nodes.{where-each, in-each, is-merge, is-enter}
 use Rattle.tam_flow.proofs.RunSteps.{IsKept}
 
--- the word of such a node comes by a message
-abbrev pub takes_word : Kind → Bool
-takes_word (Param k) = true
-takes_word (Ret f k) = true
-takes_word k = is_split k
-
--- a node that is cut is one of them
-pub split-takes : (k : Kind) → is_split k ≡ true → takes_word k ≡ true
-split-takes (Param k) h = refl
-split-takes (Ret f k) h = refl
-split-takes k h = h
+-- to a node that is cut a message carries its word
+pub split-received : (k : Kind) → is_split k ≡ true → is_received k ≡ true
+split-received (Param k) h = refl
+split-received (Ret f k) h = refl
+split-received (Call c) h = refl
+split-received (Alloc n) h = refl
+split-received (Fetch a j) h = refl
+split-received k h = h
 
 -- ---- one word more
 
@@ -88,17 +86,17 @@ begun-words w c e y f x =
 
 module _ (g : Graph) (w : World) (i y : ℕ) where
   -- a node whose word comes otherwise isn't one whose word comes by a message
-  other-node : (f x z : ℕ) (k : Kind) → takes_word (kind_of g w f x) ≡ true → kind_of g w i z ≡ k → takes_word k ≡ false → i ≡ f → z ≡ x → ⊥
+  other-node : (f x z : ℕ) (k : Kind) → is_received (kind_of g w f x) ≡ true → kind_of g w i z ≡ k → is_received k ≡ false → i ≡ f → z ≡ x → ⊥
   other-node f x z k takes kind none p q =
-      true≢false (sym takes ∙ subst (λ m. takes_word (kind_of g w m x) ≡ false) p
-      (subst (λ m. takes_word (kind_of g w i m) ≡ false) q (ap takes_word kind ∙ none)))
+      true≢false (sym takes ∙ subst (λ m. is_received (kind_of g w m x) ≡ false) p
+      (subst (λ m. is_received (kind_of g w i m) ≡ false) q (ap is_received kind ∙ none)))
 
   -- its own word
-  own-word : (f x v : ℕ) (k : Kind) → takes_word (kind_of g w f x) ≡ true → kind_of g w i y ≡ k → takes_word k ≡ false → word_of (got w i y v) f x ≡ word_of w f x
+  own-word : (f x v : ℕ) (k : Kind) → is_received (kind_of g w f x) ≡ true → kind_of g w i y ≡ k → is_received k ≡ false → word_of (got w i y v) f x ≡ word_of w f x
   own-word f x v k takes kind none = ⊎_elim (λ e. e) (λ h. absurd (other-node f x y k takes kind none h.0 h.1)) (got-cases w i y v f x)
 
   -- words to enters
-  enter-words : (f x b k v : ℕ) → takes_word (kind_of g w f x) ≡ true
+  enter-words : (f x b k v : ℕ) → is_received (kind_of g w f x) ≡ true
       → word_of (all_got w i (node_in (its_code g w i) b (is_enter k)) v) f x ≡ word_of w f x
   enter-words f x b k v takes =
       got-others w i (node_in (its_code g w i) b (is_enter k)) v f x
@@ -107,7 +105,7 @@ module _ (g : Graph) (w : World) (i y : ℕ) where
       (in-each (its_code g w i) b (is_enter k)))
 
   -- and to merges
-  merge-words : (f x k v : ℕ) (owners : List ℕ) → takes_word (kind_of g w f x) ≡ true
+  merge-words : (f x k v : ℕ) (owners : List ℕ) → is_received (kind_of g w f x) ≡ true
       → word_of (all_got w i (merges_of (its_code g w i) k owners) v) f x ≡ word_of w f x
   merge-words f x k v owners takes =
       got-others w i (merges_of (its_code g w i) k owners) v f x
@@ -123,7 +121,7 @@ module _ (g : Graph) (w : World) (i y : ℕ) where
       )
 
   -- a firing gives no word to a node whose word comes by a message
-  firing-keeps : (f x : ℕ) → takes_word (kind_of g w f x) ≡ true → (k : Kind) (vs : List ℕ) → kind_of g w i y ≡ k
+  firing-keeps : (f x : ℕ) → is_received (kind_of g w f x) ≡ true → (k : Kind) (vs : List ℕ) → kind_of g w i y ≡ k
       → word_of (firing_of g w i y k vs).world f x ≡ word_of w f x
   firing-keeps f x takes (Const v) [] e = own-word f x v (Const v) takes e refl
   firing-keeps f x takes (Operate o l r) (u ∷ v ∷ []) e = own-word f x _ (Operate o l r) takes e refl
@@ -140,7 +138,7 @@ module _ (g : Graph) (w : World) (i y : ℕ) where
   firing-keeps f x takes k vs e = refl
 
   -- whatever the node does
-  pub fired-keeps : (f x : ℕ) → takes_word (kind_of g w f x) ≡ true → word_of (fired g w i y).world f x ≡ word_of w f x
+  pub fired-keeps : (f x : ℕ) → is_received (kind_of g w f x) ≡ true → word_of (fired g w i y).world f x ≡ word_of w f x
   fired-keeps f x takes = go (words_of w i (operands_of (its_code g w i) (kind_at (its_code g w i) y)))
     where
       go : (ws : List (List ℕ)) → word_of (fired_with g w i y ws).world f x ≡ word_of w f x
@@ -151,7 +149,7 @@ module _ (g : Graph) (w : World) (i y : ℕ) where
 
 -- nodes whose words come by messages have the words that they had
 abbrev pub AreKept : Graph → World → World → Type 0
-AreKept g w v = (f x : ℕ) → IsThere w f → takes_word (kind_of g w f x) ≡ true → word_of v f x ≡ word_of w f x
+AreKept g w v = (f x : ℕ) → IsThere w f → is_received (kind_of g w f x) ≡ true → word_of v f x ≡ word_of w f x
 
 -- each firing of a run keeps them
 pub coming-kept : (g : Graph) (args : List ℕ) (accepted : IsAccepted g) (w : World) (i : ℕ) (there : IsThere w i) (b : BlockGraph)
@@ -160,5 +158,5 @@ coming-kept g args accepted w i there b = record {
   skips = λ done e y h d. h;
   fires = λ done e y effect same h firer l none new f x t takes.
       fired-keeps g e.world i (vertex_at b y).node f x
-      (subst (λ n. takes_word (kind_at (code_of g n) x) ≡ true) (sym (effect.grows.code f t)) takes) ∙ h f x t takes;
+      (subst (λ n. is_received (kind_at (code_of g n) x) ≡ true) (sym (effect.grows.code f t)) takes) ∙ h f x t takes;
 }

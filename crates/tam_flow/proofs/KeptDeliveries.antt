@@ -206,7 +206,7 @@ module _ (g : Graph) (w : World) where
   goes-accessed m t j r v NoArray = tt
 
   -- any message
-  goes-on : (m : Message) → IsForReceiver g w m → ((f x u : ℕ) → m ≡ Carry f x u → (f == outside) ≡ false → (t : ℕ) → word_of w f x ≡ t ∷ [] → ⊥)
+  pub goes-on : (m : Message) → IsForReceiver g w m → ((f x u : ℕ) → m ≡ Carry f x u → (f == outside) ≡ false → (t : ℕ) → word_of w f x ≡ t ∷ [] → ⊥)
       → GoesOn g w m (delivered w m)
   goes-on (Carry f x u) for fresh = goes-carry f x u for (fresh f x u refl)
   goes-on (Begin c f x) for fresh = goes-begin c f x
@@ -280,7 +280,7 @@ module _ (g : Graph) (args : List ℕ) (all : Partitions) (s : State) (sound : I
   module _ (m : ℕ) (x : Message) (is_sent : slice_get s.sent m ≡ Some x) (new : has s.arrived m ≡ false) (once : OneWordSent s)
       (for : IsForReceiver g s.world x) where
     -- a node to which a word is on its way has none
-    fresh-word : (f y u : ℕ) → x ≡ Carry f y u → (f == outside) ≡ false → (t : ℕ) → word_of s.world f y ≡ t ∷ [] → ⊥
+    pub fresh-word : (f y u : ℕ) → x ≡ Carry f y u → (f == outside) ≡ false → (t : ℕ) → word_of s.world f y ≡ t ∷ [] → ⊥
     fresh-word f y u e inside t h = ⊎_elim by_firing by_message (state.kept.sources f y t h)
       where
         receives : is_received (kind_of g s.world f y) ≡ true

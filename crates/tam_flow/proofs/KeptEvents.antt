@@ -39,7 +39,7 @@ in-done done (y ∷ ys) z (inr (inl e)) = in-done (y ∷ done) ys z (inl (inl e)
 in-done done (y ∷ ys) z (inr (inr h)) = in-done (y ∷ done) ys z (inr h)
 
 -- what differs from each element of a list isn't in it
-none-twice : (y z : ℕ) (ys : List ℕ) → AllByRecursion (λ x. y ≡ x → ⊥) ys → y ≡ z → In z ys → ⊥
+pub none-twice : (y z : ℕ) (ys : List ℕ) → AllByRecursion (λ x. y ≡ x → ⊥) ys → y ≡ z → In z ys → ⊥
 none-twice y z ys h e m = each-in (λ x. y ≡ x → ⊥) ys z h m e
 
 module _ (g : Graph) (args : List ℕ) (accepted : IsAccepted g) (all : Partitions) (valid : are_valid g all ≡ true) (s : State) (sound : IsSoundState g args s)
@@ -72,7 +72,7 @@ module _ (g : Graph) (args : List ℕ) (accepted : IsAccepted g) (all : Partitio
       (λ z m. ⊎_elim (λ p. subst (λ n. n < length (block_of_act g s i b).vertices) p within.0) (λ p. places z p) m) order.1
 
   -- each place in order is of the class
-  order-inside : AllByRecursion (λ y. In y the_class) the_order
+  pub order-inside : AllByRecursion (λ y. In y the_class) the_order
   order-inside = order-each (λ y. In y the_class) (block_of_act g s i b).edges the_class (in-each (λ y. In y the_class) the_class (λ x m. m))
 
   -- so it is at the end of the run
@@ -137,7 +137,7 @@ module _ (g : Graph) (args : List ℕ) (accepted : IsAccepted g) (all : Partitio
   ran-there j d e h = (sound.ran j d e h).0
 
   -- what has fired behind the run had fired, or is of its places
-  fired-with : (j z : ℕ) → HasFired g all after j z → FiredWith g args accepted all valid s sound state i b c run (done_after [] the_order) j z
+  pub fired-with : (j z : ℕ) → HasFired g all after j z → FiredWith g args accepted all valid s sound state i b c run (done_after [] the_order) j z
   fired-with j z h = go (ran-cases j h.block h.class h.ran)
     where
       old : has_run s j h.block h.class ≡ true → HasFired g all s j z
@@ -180,7 +180,7 @@ module _ (g : Graph) (args : List ℕ) (accepted : IsAccepted g) (all : Partitio
       go (inr k) = new k.0 k.1 k.2
 
   -- and the other way round
-  with-fired : (j z : ℕ) → FiredWith g args accepted all valid s sound state i b c run (done_after [] the_order) j z → HasFired g all after j z
+  pub with-fired : (j z : ℕ) → FiredWith g args accepted all valid s sound state i b c run (done_after [] the_order) j z → HasFired g all after j z
   with-fired j z (inl h) = record {
     there = run-onward.there j h.there;
     code = h.code;

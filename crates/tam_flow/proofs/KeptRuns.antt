@@ -89,7 +89,7 @@ module _ (g : Graph) (args : List ℕ) (accepted : IsAccepted g) (all : Partitio
     pub kept : IsKept g e.world (FiredWith done) (SentWith e) (HasArrived s)
 
   -- the code's number
-  code-there : (activation_at s.world i).code < length g.codes
+  pub code-there : (activation_at s.world i).code < length g.codes
   code-there = sound.world.codes i run.there
 
   -- the partition of the block is valid
@@ -116,7 +116,7 @@ module _ (g : Graph) (args : List ℕ) (accepted : IsAccepted g) (all : Partitio
       the_node = (vertex_at the_block y).node
 
       -- it stands in the block
-      node-in_block : (the_node < length the_code.nodes) × (block_at the_code the_node ≡ b)
+      pub node-in_block : (the_node < length the_code.nodes) × (block_at the_code the_node ≡ b)
       node-in_block = vertex-each the_code b y within
 
       -- the place of an operand's value: it is done or its class has run, so the operand has a word
@@ -172,7 +172,7 @@ module _ (g : Graph) (args : List ℕ) (accepted : IsAccepted g) (all : Partitio
             })) value q
 
       -- so each operand of a place that fires has a word
-      operand-has : (vertex_at the_block y).inlet ≡ false → (a : ℕ) → In a (operands_of the_code (kind_at the_code the_node))
+      pub operand-has : (vertex_at the_block y).inlet ≡ false → (a : ℕ) → In a (operands_of the_code (kind_at the_code the_node))
           → (u : ℕ) × (word_of e.world i a ≡ u ∷ [])
       operand-has none a m =
           let taken = operand-taken g accepted (activation_at s.world i).code code-there the_node a (kind_at the_code the_node) node-in_block.0 refl m in
@@ -183,7 +183,7 @@ module _ (g : Graph) (args : List ℕ) (accepted : IsAccepted g) (all : Partitio
           (record { vertex = vertex_at the_block y; stands = place-at the_code b y within; of_node = refl; no_inlet = none }) here m)
 
       -- and the place fires for the first time
-      fires-first : (In y done → ⊥) → (vertex_at the_block y).inlet ≡ false → ((z : ℕ) → In z done → z < length the_block.vertices)
+      pub fires-first : (In y done → ⊥) → (vertex_at the_block y).inlet ≡ false → ((z : ℕ) → In z done → z < length the_block.vertices)
           → FiredWith done i the_node → ⊥
       fires-first fresh none places (inl f) =
           let both = one-class g args accepted all valid (activation_at s.world i).code b c f.block f.class f.place y code-there

@@ -31,7 +31,8 @@ use Rattle.tam_flow.proofs.SoundStates.{IsSoundState, runnable, no-fault, opened
 use Rattle.tam_flow.proofs.SentOnce.{HasFired, IsOnceState, arrived-more, arrived-now, once-initial}
 use Rattle.tam_flow.proofs.DeliveredOnce.{one-wish, once-event}
 use Rattle.tam_flow.proofs.WordSenders.{IsFor, WordsApart, SendsTo, for-eq}
-use Rattle.tam_flow.proofs.ComingWords.{takes_word, has-there, got-cases, got-here, begun-words}
+use Rattle.tam_flow.proofs.Givers.{is_received}
+use Rattle.tam_flow.proofs.ComingWords.{has-there, got-cases, got-here, begun-words}
 use Rattle.tam_flow.proofs.WordSources.{IsAskOf, HasAsked, WordCause, IsCaused, ReadersApart, IsWaiting, WaitHere, IsWordState, ask-kind, sends-uncut, one-ask}
 use Rattle.tam_flow.proofs.WordSources.{cause-takes, caused-later, words-initial, words-run}
 use Rattle.tam_flow.proofs.Accesses.{with_new_cell, FetchCases, StoreCases, fetch-cases, store-cases}
@@ -127,7 +128,7 @@ module _ (g : Graph) (args : List ℕ) (accepted : IsAccepted g) (all : Partitio
 
       -- a delivery that goes well
       pub words-went : (e : Effect) → Grows s.world e.world → AllByRecursion (IsFresh (after_delivery s m (Went e))) e.sends → Pairs WordsApart e.sends
-          → ((f y u : ℕ) → word_of e.world f y ≡ u ∷ [] → takes_word (kind_of g e.world f y) ≡ true → HasArrived (after_delivery s m (Went e)) (Carry f y u))
+          → ((f y u : ℕ) → word_of e.world f y ≡ u ∷ [] → is_received (kind_of g e.world f y) ≡ true → HasArrived (after_delivery s m (Went e)) (Carry f y u))
           → ((f y u : ℕ) → HasArrived (after_delivery s m (Went e)) (Carry f y u) → (f == outside) ≡ false → word_of e.world f y ≡ u ∷ [])
           → WaitHere (after_delivery s m (Went e)) → IsWordState g all (after_delivery s m (Went e))
       words-went e grows fresh apart words carried waits = record {
@@ -161,11 +162,11 @@ module _ (g : Graph) (args : List ℕ) (accepted : IsAccepted g) (all : Partitio
       module _ (e : Effect) (grows : Grows s.world e.world) (same : (f y : ℕ) → word_of e.world f y ≡ word_of s.world f y)
           (no_word : (f y u : ℕ) → x ≡ Carry f y u → (f == outside) ≡ false → ⊥) where
         -- each word is one that arrived
-        pub words-same : (f y u : ℕ) → word_of e.world f y ≡ u ∷ [] → takes_word (kind_of g e.world f y) ≡ true → HasArrived (after_delivery s m (Went e)) (Carry f y u)
+        pub words-same : (f y u : ℕ) → word_of e.world f y ≡ u ∷ [] → is_received (kind_of g e.world f y) ≡ true → HasArrived (after_delivery s m (Went e)) (Carry f y u)
         words-same f y u h takes =
             let old : word_of s.world f y ≡ u ∷ [] = sym (same f y) ∙ h in
             let t = has-there s.world f y u old in
-            let r = done.words f y u old (subst (λ n. takes_word (kind_at (code_of g n) y) ≡ true) (grows.code f t) takes) in
+            let r = done.words f y u old (subst (λ n. is_received (kind_at (code_of g n) y) ≡ true) (grows.code f t) takes) in
             (r.0, sent e.sends r.0 (Carry f y u) r.1, arrived-more m s.arrived r.0 r.2)
 
         -- and the other way round
@@ -251,7 +252,7 @@ module _ (g : Graph) (args : List ℕ) (accepted : IsAccepted g) (all : Partitio
           there : IsThere s.world f
           there = (word-cause m f y u inside is_sent_here).0
 
-          words : (e z t : ℕ) → word_of (got s.world f y u) e z ≡ t ∷ [] → takes_word (kind_of g (got s.world f y u) e z) ≡ true
+          words : (e z t : ℕ) → word_of (got s.world f y u) e z ≡ t ∷ [] → is_received (kind_of g (got s.world f y u) e z) ≡ true
               → HasArrived (after_delivery s m (Went (changes (got s.world f y u)))) (Carry e z t)
           words e z t h takes = ⊎_elim old now (got-cases s.world f y u e z)
             where
@@ -259,7 +260,7 @@ module _ (g : Graph) (args : List ℕ) (accepted : IsAccepted g) (all : Partitio
               old q =
                   let w : word_of s.world e z ≡ t ∷ [] = sym q ∙ h in
                   let code = (grows-got s.world f y u).code e (has-there s.world e z t w) in
-                  let r = done.words e z t w (subst (λ n. takes_word (kind_at (code_of g n) z) ≡ true) code takes) in
+                  let r = done.words e z t w (subst (λ n. is_received (kind_at (code_of g n) z) ≡ true) code takes) in
                   (r.0, sent [] r.0 (Carry e z t) r.1, arrived-more m s.arrived r.0 r.2)
 
               now : (f ≡ e) × (y ≡ z) → HasArrived (after_delivery s m (Went (changes (got s.world f y u)))) (Carry e z t)

@@ -36,7 +36,8 @@ use Rattle.tam_flow.proofs.DeliveredOnce.{one-wish}
 use Rattle.tam_flow.proofs.RunSteps.{run-kept, run-size, run-more, run_done, fires-now, fires-first}
 use Rattle.tam_flow.proofs.WordSenders.{IsFor, WordsApart, PathsDiffer, differ-later, SendsTo, sends-once, sends-later, param-eq, param-ret, few-pairs, for-eq, IsSentIn}
 use Rattle.tam_flow.proofs.WordSenders.{IsWordRun, words-kept}
-use Rattle.tam_flow.proofs.ComingWords.{takes_word, split-takes, has-there, AreKept, coming-kept}
+use Rattle.tam_flow.proofs.Givers.{is_received}
+use Rattle.tam_flow.proofs.ComingWords.{split-received, has-there, AreKept, coming-kept}
 
 -- the message asks for a word for node x of activation f
 abbrev pub IsAskOf : ℕ → ℕ → Message → Type 0
@@ -78,7 +79,7 @@ pub record IsWordState (g : Graph) (all : Partitions) (s : State) : Type 0 where
   pub before : (n : ℕ) → has s.arrived n ≡ true → n < length s.sent
   pub apart : Pairs WordsApart s.sent
   pub causes : AllByRecursion (IsCaused g all s) s.sent
-  pub words : (f x u : ℕ) → Has s f x u → takes_word (kind_of g s.world f x) ≡ true → HasArrived s (Carry f x u)
+  pub words : (f x u : ℕ) → Has s f x u → is_received (kind_of g s.world f x) ≡ true → HasArrived s (Carry f x u)
   pub carried : (f x u : ℕ) → HasArrived s (Carry f x u) → (f == outside) ≡ false → Has s f x u
   pub waits : WaitHere s
 
@@ -143,11 +144,11 @@ module _ (g : Graph) (args : List ℕ) (accepted : IsAccepted g) (all : Partitio
       let r = ask-by g args s.world f x p i y h a in let t = ask-by g args s.world f x q j z k b in (sym r.0 ∙ t.0, sym r.1 ∙ t.1))
 
   -- a node to which a word is sent takes it
-  pub cause-takes : (f x : ℕ) → WordCause g all s f x → takes_word (kind_of g s.world f x) ≡ true
-  cause-takes f x (inl h) = ap takes_word h.1
-  cause-takes f x (inr (inl (i, y, h, inl k))) = ap takes_word k.is_param
-  cause-takes f x (inr (inl (i, y, h, inr k))) = ap takes_word k.is_ret
-  cause-takes f x (inr (inr h)) = split-takes (kind_of g s.world f x) h.0
+  pub cause-takes : (f x : ℕ) → WordCause g all s f x → is_received (kind_of g s.world f x) ≡ true
+  cause-takes f x (inl h) = ap is_received h.1
+  cause-takes f x (inr (inl (i, y, h, inl k))) = ap is_received k.is_param
+  cause-takes f x (inr (inl (i, y, h, inr k))) = ap is_received k.is_ret
+  cause-takes f x (inr (inr h)) = split-received (kind_of g s.world f x) h.0
 
   -- where a word came from it came from later
   pub cause-later : (v : State) → Grows s.world v.world → ((n : ℕ) (m : Message) → slice_get s.sent n ≡ Some m → slice_get v.sent n ≡ Some m)
@@ -315,12 +316,12 @@ module _ (g : Graph) (args : List ℕ) (accepted : IsAccepted g) (all : Partitio
       at : (f x u : ℕ) → HasArrived s (Carry f x u) → (f == outside) ≡ false → WordCause g all s f x
       at f x u h inside = (all-at_place (IsCaused g all s) s.sent h.0 (Carry f x u) done.causes h.1 f x inside (u, refl)).1
 
-      word : (f x u : ℕ) → word_of (class_fired g all s i b c).world f x ≡ u ∷ [] → takes_word (kind_of g (class_fired g all s i b c).world f x) ≡ true
+      word : (f x u : ℕ) → word_of (class_fired g all s i b c).world f x ≡ u ∷ [] → is_received (kind_of g (class_fired g all s i b c).world f x) ≡ true
           → HasArrived s (Carry f x u)
       word f x u h takes =
           let t : IsThere s.world f = subst (λ n. f < n) (run-size g args accepted all valid s sound once i b c run)
           (has-there (class_fired g all s i b c).world f x u h) in
-          let k : takes_word (kind_of g s.world f x) ≡ true = subst (λ n. takes_word (kind_at (code_of g n) x) ≡ true) (effect.grows.code f t) takes in
+          let k : is_received (kind_of g s.world f x) ≡ true = subst (λ n. is_received (kind_at (code_of g n) x) ≡ true) (effect.grows.code f t) takes in
           done.words f x u (sym (kept f x t k) ∙ h) k
 
       sends : (f x : ℕ) → IsSentIn g (block_of_act g s i b) (class_fired g all s i b c).world i (run_done g all s i b c) f x

@@ -28,7 +28,8 @@ use Rattle.tam_flow.proofs.SoundStates.{IsSoundState, sound-journal}
 use Rattle.tam_flow.proofs.SentOnce.{IsOnceState, arrived-more, arrived-now}
 use Rattle.tam_flow.proofs.DeliveredOnce.{once-journal}
 use Rattle.tam_flow.proofs.WordSenders.{IsFor, WordsApart, for-eq}
-use Rattle.tam_flow.proofs.ComingWords.{takes_word, begun-words}
+use Rattle.tam_flow.proofs.Givers.{is_received}
+use Rattle.tam_flow.proofs.ComingWords.{begun-words}
 use Rattle.tam_flow.proofs.WordSources.{IsAskOf, WordCause, IsCaused, ReadersApart, IsWaiting, WaitHere, IsWordState, ask-kind, one-ask}
 use Rattle.tam_flow.proofs.WordSources.{cause-takes, caused-later, words-initial, words-run}
 use Rattle.tam_flow.proofs.Accesses.{with_new_cell, FetchCases, StoreCases, fetch-cases, store-cases, cell-here}

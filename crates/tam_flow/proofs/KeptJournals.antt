@@ -56,7 +56,7 @@ module _ (g : Graph) (args : List ℕ) (accepted : IsAccepted g) (all : Partitio
       each (e ∷ es) = (one e.0 e.1, each es)
 
   -- nothing has fired yet, and no node has a word
-  kept-initial : IsKeptState g all (initial g args)
+  pub kept-initial : IsKeptState g all (initial g args)
   kept-initial = record {
     kept = record {
       there = λ i x h. absurd (true≢false (sym h.ran));

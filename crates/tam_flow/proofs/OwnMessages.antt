@@ -82,7 +82,7 @@ wish-sent g w i x (Store a j b) (t ∷ u ∷ v ∷ z ∷ vs) p h = absurd h.1.1.
 wish-sent g w i x k vs p h = absurd (true≢false (sym p))
 
 -- what has the one and the other has both
-all-both : {X : Type 0} (P Q : X → Type 0) (xs : List X) → AllByRecursion P xs → AllByRecursion Q xs → AllByRecursion (λ x. P x × Q x) xs
+pub all-both : {X : Type 0} (P Q : X → Type 0) (xs : List X) → AllByRecursion P xs → AllByRecursion Q xs → AllByRecursion (λ x. P x × Q x) xs
 all-both P Q [] h k = tt
 all-both P Q (x ∷ xs) h k = ((h.0, k.0), all-both P Q xs h.1 k.1)
 

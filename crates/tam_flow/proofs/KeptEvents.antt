@@ -2,7 +2,8 @@
 use Rattle.std.proofs.Common.{◌≡◌, ℕ, ◌<◌, Bool, true, false, ◌==◌, ◌&&◌, List, [], ◌∷◌, ◌++◌, length, slice_get, Some, refl, sym, ap, ◌∙◌, subst}
 use Rattle.std.proofs.Common.{inl, inr, ◌⊎◌, ⊎_elim, true≢false}
 use Rattle.std.specs.List.{AllByRecursion}
-use Rattle.tam_word.specs.Lists.{any_of, has}
+use Rattle.std.proofs.lemmas.List.{append-nil}
+use Rattle.tam_word.specs.Lists.{any_of}
 use Rattle.tam_msgs.specs.declared.message.Message.{Message}
 use Rattle.tam_graph.specs.Graphs.{Graph, code_of}
 use Rattle.tam_graph.specs.Accepted.{IsAccepted}
@@ -14,7 +15,7 @@ use Rattle.tam_word.proofs.Members.{In, all-in, in-has, has-in, in-get, get-appe
 use Rattle.tam_word.proofs.Each.{all-more, each-in, in-each, get-left}
 use Rattle.tam_flow.specs.Worlds.{World, Effect, activation_at, its_code, word_of, has_word, fired}
 use Rattle.tam_flow.specs.Journals.{State, Event, Run, fire_each, class_fired, has_run, block_of_act, parts_of_act, after_event}
-use Rattle.tam_flow.specs.Reached.{IsThere, WasSent, HasArrived, HasSome}
+use Rattle.tam_flow.specs.Reached.{IsThere, HasArrived, HasSome}
 use Rattle.tam_flow.proofs.ActivationCounts.{then_one}
 use Rattle.tam_flow.proofs.ActivationLists.{has-word}
 use Rattle.tam_flow.proofs.Acyclic.{IsAcyclic, order-all, order-distinct, block-acyclic}
@@ -27,8 +28,8 @@ use Rattle.tam_flow.proofs.Senders.{done_after, done-in}
 use Rattle.tam_flow.proofs.SentOnce.{HasFired}
 use Rattle.tam_flow.proofs.SoundStates.{IsSoundState, IsRunnable, order-ready, run-within}
 use Rattle.tam_flow.proofs.Onward.{Onward, onward-same}
-use Rattle.tam_flow.proofs.Kept.{IsKept, kept-same}
-use Rattle.tam_flow.proofs.KeptRuns.{IsKeptState, IsKeptRun, FiredWith, SentWith, kept-one}
+use Rattle.tam_flow.proofs.Kept.{kept-same, wish-same}
+use Rattle.tam_flow.proofs.KeptRuns.{IsTagged, IsOfFiring, IsKeptState, IsKeptRun, FiredWith, kept-one}
 
 -- what is done stays done, and what is taken in turn is done
 in-done : (done ys : List ℕ) (z : ℕ) → In z done ⊎ In z ys → In z (done_after done ys)
@@ -81,9 +82,14 @@ module _ (g : Graph) (args : List ℕ) (accepted : IsAccepted g) (all : Partitio
       kept-each the_order [] (record { world = s.world; sends = [] })
       (record {
         on = onward-same s.world;
-        kept = kept-same g s.world (HasFired g all s) (FiredWith g args accepted all valid s sound state i b c run []) (WasSent s)
-            (SentWith g args accepted all valid s sound state i b c run (record { world = s.world; sends = [] })) (HasArrived s) (HasArrived s)
-            (λ j z h. inl h) (λ j z h. none j z h) (λ m h. inl h) (λ m h. h) state.kept;
+        tags = state.tags;
+        same = state.same ∙ sym (append-nil s.sent);
+        of_firings = all-more (IsOfFiring g s.world (HasFired g all s)) (IsOfFiring g s.world (FiredWith g args accepted all valid s sound state i b c run []))
+            (λ t h k. wish-same g s.world (HasFired g all s) (FiredWith g args accepted all valid s sound state i b c run []) (λ j z h. inl h) t.0 t.1 t.2 (h k))
+            state.tags state.of_firings;
+        apart = state.apart;
+        kept = kept-same g s.world (HasFired g all s) (FiredWith g args accepted all valid s sound state i b c run []) (IsTagged state.tags)
+            (IsTagged state.tags) (HasArrived s) (HasArrived s) (λ j z h. inl h) (λ j z h. none j z h) (λ j z m h. h) (λ m h. h) state.kept;
       })
       (record { world = sound.world; grows = grows-same s.world; sends = tt })
       (order-ready g args accepted all s i b c valid sound run) order-inside
@@ -218,9 +224,15 @@ module _ (g : Graph) (args : List ℕ) (accepted : IsAccepted g) (all : Partitio
   -- the state behind the run keeps what the state kept
   pub kept-run : IsKeptState g all after
   kept-run = record {
+    tags = kept-all.tags;
+    same = kept-all.same;
+    of_firings = all-more (IsOfFiring g after.world (FiredWith g args accepted all valid s sound state i b c run (done_after [] the_order)))
+        (IsOfFiring g after.world (HasFired g all after))
+        (λ t h k. wish-same g after.world (FiredWith g args accepted all valid s sound state i b c run (done_after [] the_order)) (HasFired g all after)
+        with-fired t.0 t.1 t.2 (h k)) kept-all.tags kept-all.of_firings;
+    apart = kept-all.apart;
     kept = kept-same g after.world (FiredWith g args accepted all valid s sound state i b c run (done_after [] the_order)) (HasFired g all after)
-        (SentWith g args accepted all valid s sound state i b c run (class_fired g all s i b c)) (WasSent after) (HasArrived s) (HasArrived after)
-        with-fired fired-with sent arrived kept-all.kept;
+        (IsTagged kept-all.tags) (IsTagged kept-all.tags) (HasArrived s) (HasArrived after) with-fired fired-with (λ j z m h. h) arrived kept-all.kept;
     inlets = λ j d e y h. ⊎_elim (λ k. old-inlet j d e y k) (λ k. new-inlet j d e y k.0 k.1 k.2) (ran-cases j d e h);
     classes = λ j d e h. ⊎_elim (λ k. subst (λ n. e < length (parts_of all n d)) (sym (run-onward.code j (ran-there j d e k))) (state.classes j d e k))
         (λ k. new-class j d e k.0 k.1 k.2) (ran-cases j d e h);
@@ -228,10 +240,6 @@ module _ (g : Graph) (args : List ℕ) (accepted : IsAccepted g) (all : Partitio
     where
       still : (n : ℕ) (m : Message) → slice_get s.sent n ≡ Some m → slice_get (s.sent ++ (class_fired g all s i b c).sends) n ≡ Some m
       still n m h = get-left s.sent (class_fired g all s i b c).sends n (some-below s.sent n h) ∙ h
-
-      sent : (m : Message) → WasSent s m ⊎ In m (class_fired g all s i b c).sends → WasSent after m
-      sent m (inl h) = (h.0, still h.0 m h.1)
-      sent m (inr h) = in-get m (s.sent ++ (class_fired g all s i b c).sends) (right-in m s.sent (class_fired g all s i b c).sends h)
 
       arrived : (m : Message) → HasArrived s m → HasArrived after m
       arrived m h = (h.0, still h.0 m h.1, h.2)

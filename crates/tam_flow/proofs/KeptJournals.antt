@@ -22,10 +22,11 @@ use Rattle.tam_flow.proofs.Growing.{grows-same}
 use Rattle.tam_flow.proofs.Justified.{IsMessage}
 use Rattle.tam_flow.proofs.Nodes.{where-each, is-param}
 use Rattle.tam_flow.proofs.Sending.{sent-from}
-use Rattle.tam_flow.proofs.SentOnce.{HasFired}
+use Rattle.tam_flow.proofs.SentOnce.{HasFired, asked-words, initial-words}
+use Rattle.tam_flow.proofs.Senders.{asks, tagged_with, tagged-same, words-apart}
 use Rattle.tam_flow.proofs.SoundStates.{IsSoundState, IsRunnable, runnable, run_order, run-effect, order-ready, opened, sound-event, sound-initial}
 use Rattle.tam_flow.proofs.Givers.{is_received}
-use Rattle.tam_flow.proofs.KeptRuns.{IsKeptState}
+use Rattle.tam_flow.proofs.KeptRuns.{IsOfFiring, IsKeptState}
 use Rattle.tam_flow.proofs.KeptEvents.{kept-run}
 use Rattle.tam_flow.proofs.Receivers.{IsForReceiver, SendsToReceivers, receivers-later, receivers-each, delivered-receivers}
 use Rattle.tam_flow.proofs.KeptDeliveries.{OneWordSent, kept-delivery}
@@ -58,6 +59,11 @@ module _ (g : Graph) (args : List ℕ) (accepted : IsAccepted g) (all : Partitio
   -- nothing has fired yet, and no node has a word
   kept-initial : IsKeptState g all (initial g args)
   kept-initial = record {
+    tags = tagged_with 0 0 (initial g args).sent;
+    same = tagged-same 0 0 (initial g args).sent;
+    of_firings = all-more (λ t. asks t.0 ≡ false) (IsOfFiring g (opening g) (HasFired g all (initial g args))) (λ t k d. absurd (true≢false (sym d ∙ k)))
+        (tagged_with 0 0 (initial g args).sent) (asked-words 0 0 (initial g args).sent words);
+    apart = words-apart 0 0 (initial g args).sent words;
     kept = record {
       there = λ i x h. absurd (true≢false (sym h.ran));
       open_block = λ i x h. absurd (true≢false (sym h.ran));
@@ -69,6 +75,9 @@ module _ (g : Graph) (args : List ℕ) (accepted : IsAccepted g) (all : Partitio
     classes = λ i b c h. absurd (true≢false (sym h));
   }
     where
+      words : AllByRecursion (λ m. asks m ≡ false) (initial g args).sent
+      words = initial-words g args accepted all
+
       nil-cons : {u : ℕ} → [] ≡ u ∷ [] → ⊥
       nil-cons e = cc
 

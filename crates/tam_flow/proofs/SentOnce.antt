@@ -179,7 +179,7 @@ module _ (g : Graph) (args : List ℕ) (accepted : IsAccepted g) (all : Partitio
   -- ---- the beginning
 
   -- the arguments are words
-  initial-words : AllByRecursion (λ m. asks m ≡ false) (initial g args).sent
+  pub initial-words : AllByRecursion (λ m. asks m ≡ false) (initial g args).sent
   initial-words = all-flat (λ m. asks m ≡ false) (argument_message g) (zip (below (length args)) args) (each (zip (below (length args)) args))
     where
       each : (es : List (ℕ × ℕ)) → AllByRecursion (λ e. AllByRecursion (λ m. asks m ≡ false) (argument_message g e)) es

@@ -1,8 +1,8 @@
 -- An outlet that fired has run, and one that ran has done what it does with the words that its operands have.
-use Rattle.std.proofs.Common.{◌≡◌, ℕ, ◌<◌, Bool, true, false, ◌==◌, ◌&&◌, List, [], ◌∷◌, length, refl, sym, ap, ◌∙◌, subst, inl, inr, ◌⊎◌, true≢false}
+use Rattle.std.proofs.Common.{◌≡◌, ℕ, ◌<◌, true, false, ◌==◌, ◌&&◌, List, length, sym, ap, ◌∙◌, subst, inl, inr, true≢false}
 use Rattle.tam_msgs.specs.declared.message.Message.{Message}
 use Rattle.tam_graph.specs.declared.kind.Kind.{Kind}
-use Rattle.tam_graph.specs.Graphs.{Graph, Code, code_of, kind_at, block_at, operands_of, is_outlet}
+use Rattle.tam_graph.specs.Graphs.{Graph, code_of, kind_at, block_at, operands_of, is_outlet}
 use Rattle.tam_word.specs.Lists.{any_of}
 use Rattle.tam_split.specs.declared.vertex.Vertex.{Vertex}
 use Rattle.tam_split.specs.Blocks.{block_graph, vertex_at, places}
@@ -58,10 +58,12 @@ fired-ran g args all s valid sound i x h outlet =
         → (vertex_at (block_graph (its_code g s.world i) b) h.place).inlet ≡ false
         → (vertex_at (block_graph (its_code g s.world i) b) h.place).node ≡ x → In h.place (class_at (parts_of all (activation_at s.world i).code b) h.class)
         → has_run s i b h.class ≡ true → b < length (its_code g s.world i).owners
-        → any_of (λ y. has_run s i b (class_of (parts_of all (activation_at s.world i).code b) y)) (outlet_place (block_graph (its_code g s.world i) b) x) ≡ true
+        → any_of (λ y. has_run s i b (class_of (parts_of all (activation_at s.world i).code b) y)) (outlet_place (block_graph (its_code g s.world i) b) x)
+        ≡ true
     here b within none node m ran there =
         in-any (λ y. has_run s i b (class_of (parts_of all (activation_at s.world i).code b) y)) (outlet_place (block_graph (its_code g s.world i) b) x) h.place
-        (filter-in (λ y. (vertex_at (block_graph (its_code g s.world i) b) y).outlet && ((vertex_at (block_graph (its_code g s.world i) b) y).node == x)) h.place
+        (filter-in (λ y. (vertex_at (block_graph (its_code g s.world i) b) y).outlet && ((vertex_at (block_graph (its_code g s.world i) b) y).node == x))
+        h.place
         (places (block_graph (its_code g s.world i) b)) (below-in h.place (length (block_graph (its_code g s.world i) b).vertices) within)
         (true-both (vertex_at (block_graph (its_code g s.world i) b) h.place).outlet ((vertex_at (block_graph (its_code g s.world i) b) h.place).node == x)
         is_out (eq-number _ x node)))
@@ -84,7 +86,8 @@ fired-ran g args all s valid sound i x h outlet =
         → (vertex_at (block_graph (its_code g s.world i) b) h.place).node ≡ x → In h.place (class_at (parts_of all (activation_at s.world i).code b) h.class)
         → has_run s i b h.class ≡ true → b < length (its_code g s.world i).owners → Ran g all s i x
     at b e within none node m ran there =
-        subst (λ d. any_of (λ y. has_run s i d (class_of (parts_of all (activation_at s.world i).code d) y)) (outlet_place (block_graph (its_code g s.world i) d) x) ≡ true) e
+        subst (λ d. any_of (λ y. has_run s i d (class_of (parts_of all (activation_at s.world i).code d) y))
+        (outlet_place (block_graph (its_code g s.world i) d) x) ≡ true) e
         (here b within none node m ran there)
 
 -- what node x of activation i of kind k has done with the words vs, by the messages with their senders

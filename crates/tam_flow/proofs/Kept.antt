@@ -1,5 +1,5 @@
 -- What a world keeps of firings and messages: what each node that fired did, with which words, and where each word and each entered block came from.
-use Rattle.std.proofs.Common.{◌≡◌, ℕ, ◌<◌, Bool, true, false, ◌==◌, List, [], ◌∷◌, Option, Some, None, slice_get, refl, sym, ap, ◌∙◌, subst, inl, inr, ◌⊎◌, ⊎_elim}
+use Rattle.std.proofs.Common.{◌≡◌, ℕ, true, false, ◌==◌, List, [], ◌∷◌, Option, Some, None, slice_get, refl, sym, ap, ◌∙◌, subst, inl, inr, ◌⊎◌, ⊎_elim}
 use Rattle.tam_msgs.specs.declared.message.Message.{Message}
 use Rattle.tam_msgs.specs.declared.message.Message.TheVariants.{Word as Carry}
 use Rattle.tam_msgs.specs.Messages.{outside}
@@ -71,7 +71,8 @@ abbrev pub CallersThere : World → Type 0
 CallersThere w = (j : ℕ) → IsThere w j → ((activation_at w j).caller == outside) ≡ false → IsThere w (activation_at w j).caller
 
 -- other words for what fired, was sent and has arrived
-pub kept-same : (g : Graph) (w : World) (F G : ℕ → ℕ → Type 0) (S T : ℕ → ℕ → Message → Type 0) (A B : Message → Type 0) → ((i x : ℕ) → F i x → G i x) → ((i x : ℕ) → G i x → F i x)
+pub kept-same : (g : Graph) (w : World) (F G : ℕ → ℕ → Type 0) (S T : ℕ → ℕ → Message → Type 0) (A B : Message → Type 0)
+    → ((i x : ℕ) → F i x → G i x) → ((i x : ℕ) → G i x → F i x)
     → ((i x : ℕ) (m : Message) → S i x m → T i x m) → ((m : Message) → A m → B m) → IsKept g w F S A → IsKept g w G T B
 kept-same g w F G S T A B fg gf st ab kept = record {
   there = λ i x h. kept.there i x (gf i x h);
@@ -168,7 +169,8 @@ module _ (g : Graph) (w v : World) (on : Onward w v) where
     }
 
     -- where nothing fires besides, new words came by messages and new blocks are bodies, a world keeps what it kept
-    pub kept-later : (F G : ℕ → ℕ → Type 0) (S T : ℕ → ℕ → Message → Type 0) (A B : Message → Type 0) → ((i x : ℕ) → F i x → G i x) → ((i x : ℕ) → G i x → F i x)
+    pub kept-later : (F G : ℕ → ℕ → Type 0) (S T : ℕ → ℕ → Message → Type 0) (A B : Message → Type 0)
+        → ((i x : ℕ) → F i x → G i x) → ((i x : ℕ) → G i x → F i x)
         → ((i x : ℕ) (m : Message) → S i x m → T i x m) → ((m : Message) → A m → B m)
         → ((i y u : ℕ) → word_of v i y ≡ u ∷ [] → (word_of w i y ≡ u ∷ []) ⊎ (B (Carry i y u) × (is_received (kind_of g v i y) ≡ true)))
         → ((i b : ℕ) → IsThere v i → has_entered v i b ≡ true → (IsThere w i × (has_entered w i b ≡ true)) ⊎ (b ≡ 0))

@@ -1,5 +1,6 @@
 -- The delivery of a message gives a word to a node that has none; so the state behind it keeps firings, messages and words.
-use Rattle.std.proofs.Common.{◌≡◌, ◌≢◌, ℕ, zero, suc, ◌<◌, Bool, true, false, ◌==◌, ◌&&◌, List, [], ◌∷◌, ◌++◌, Option, Some, None, length, slice_get, refl, sym, ap, ap₂, ◌∙◌, arith}
+use Rattle.std.proofs.Common.{◌≡◌, ◌≢◌, ℕ, zero, suc, ◌<◌, Bool, true, false, ◌==◌, ◌&&◌, List, [], ◌∷◌, ◌++◌, Some, length, slice_get, refl, sym, ap, ap₂}
+use Rattle.std.proofs.Common.{◌∙◌, arith}
 use Rattle.std.proofs.Common.{subst, inl, inr, ◌⊎◌, ⊎_elim, true≢false}
 use Rattle.std.proofs.lemmas.List.{length-append, append-nil}
 use Rattle.std.specs.List.{AllByRecursion}
@@ -12,20 +13,20 @@ use Rattle.tam_graph.specs.Graphs.{Graph, code_of}
 use Rattle.tam_split.specs.Blocks.{block_graph, vertex_at}
 use Rattle.tam_split.specs.Partitions.{class_at}
 use Rattle.tam_split.specs.GraphPartitions.{Partitions, parts_of}
-use Rattle.tam_word.proofs.Tests.{number-eq, eq-number, self-eq}
+use Rattle.tam_word.proofs.Tests.{eq-number}
 use Rattle.tam_word.proofs.Each.{all-more, all-append, get-left, get-last, last-or_before}
 use Rattle.tam_word.proofs.Members.{In, left-in}
-use Rattle.tam_flow.specs.Worlds.{World, ActivationState, Effect, Delivery, Went, Printed, Faulted, begun, or_activation, activation_at, its_code}
+use Rattle.tam_flow.specs.Worlds.{World, ActivationState, Delivery, Went, Printed, Faulted, begun, or_activation, activation_at, its_code}
 use Rattle.tam_flow.specs.Worlds.{word_of, has_entered, got, accessed}
 use Rattle.tam_flow.specs.Worlds.{delivered}
-use Rattle.tam_flow.specs.Journals.{State, after_delivery, has_run, block_of_act, parts_of_act}
-use Rattle.tam_flow.specs.Reached.{IsThere, kind_of, WasSent, HasArrived, HasSome}
+use Rattle.tam_flow.specs.Journals.{State, after_delivery, has_run, block_of_act}
+use Rattle.tam_flow.specs.Reached.{IsThere, kind_of, HasArrived, HasSome}
 use Rattle.tam_flow.proofs.ActivationLists.{was_entered, entered-first, word_among}
 use Rattle.tam_flow.proofs.Deliveries.{some-below}
 use Rattle.tam_flow.proofs.Growing.{with_begun}
-use Rattle.tam_flow.proofs.Gifts.{gift, HaveGot, got-one}
+use Rattle.tam_flow.proofs.Gifts.{HaveGot, got-one}
 use Rattle.tam_flow.proofs.Givers.{is_received, given-to, given-no_message}
-use Rattle.tam_flow.proofs.Onward.{Onward, onward-same, word-one}
+use Rattle.tam_flow.proofs.Onward.{Onward, word-one}
 use Rattle.tam_flow.proofs.SentOnce.{HasFired, arrived-more, arrived-now, asked-words, words-across}
 use Rattle.tam_flow.proofs.SoundStates.{IsSoundState}
 use Rattle.tam_flow.proofs.Kept.{IsGift, word-act, kept-later, received-later, wish-later}
@@ -163,7 +164,8 @@ module _ (g : Graph) (w : World) where
           let on = onward-got w f x u none in
           record {
             on = on;
-            words = λ j y v e. ⊎_elim (λ k. inl (sym k ∙ e)) (λ k. inr (new j y v (received-later g w (got w f x u) on f x r.0 r.1) k.0 k.1 k.2 e)) (h.words j y);
+            words = λ j y v e. ⊎_elim (λ k. inl (sym k ∙ e)) (λ k. inr (new j y v (received-later g w (got w f x u) on f x r.0 r.1) k.0 k.1 k.2 e))
+                (h.words j y);
             blocks = λ j b t e. inl (subst (λ n. j < n) h.frames.as_many t, sym (h.blocks j b) ∙ e);
           }
 

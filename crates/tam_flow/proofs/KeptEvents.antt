@@ -1,6 +1,6 @@
 -- The run of a class leaves a state that keeps firings, messages and words.
 use Rattle.std.proofs.Common.{◌≡◌, ℕ, ◌<◌, Bool, true, false, ◌==◌, ◌&&◌, List, [], ◌∷◌, ◌++◌, length, slice_get, Some, refl, sym, ap, ◌∙◌, subst}
-use Rattle.std.proofs.Common.{inl, inr, ◌⊎◌, ⊎_elim, true≢false}
+use Rattle.std.proofs.Common.{inl, inr, ◌⊎◌, ⊎_elim}
 use Rattle.std.specs.List.{AllByRecursion}
 use Rattle.std.proofs.lemmas.List.{append-nil}
 use Rattle.tam_word.specs.Lists.{any_of}
@@ -11,10 +11,10 @@ use Rattle.tam_split.specs.Blocks.{block_graph, vertex_at}
 use Rattle.tam_split.specs.Partitions.{class_at}
 use Rattle.tam_split.specs.GraphPartitions.{Partitions, parts_of, are_valid, firing_order}
 use Rattle.tam_word.proofs.Tests.{number-eq, self-eq, true-both, and-left, and-right}
-use Rattle.tam_word.proofs.Members.{In, all-in, in-has, has-in, in-get, get-append, right-in}
+use Rattle.tam_word.proofs.Members.{In, all-in, in-has, has-in}
 use Rattle.tam_word.proofs.Each.{all-more, each-in, in-each, get-left}
-use Rattle.tam_flow.specs.Worlds.{World, Effect, activation_at, its_code, word_of, has_word, fired}
-use Rattle.tam_flow.specs.Journals.{State, Event, Run, fire_each, class_fired, has_run, block_of_act, parts_of_act, after_event}
+use Rattle.tam_flow.specs.Worlds.{Effect, activation_at, its_code, has_word}
+use Rattle.tam_flow.specs.Journals.{State, Run, fire_each, class_fired, has_run, block_of_act, parts_of_act, after_event}
 use Rattle.tam_flow.specs.Reached.{IsThere, HasArrived, HasSome}
 use Rattle.tam_flow.proofs.ActivationCounts.{then_one}
 use Rattle.tam_flow.proofs.ActivationLists.{has-word}
@@ -85,7 +85,8 @@ module _ (g : Graph) (args : List ℕ) (accepted : IsAccepted g) (all : Partitio
         tags = state.tags;
         same = state.same ∙ sym (append-nil s.sent);
         of_firings = all-more (IsOfFiring g s.world (HasFired g all s)) (IsOfFiring g s.world (FiredWith g args accepted all valid s sound state i b c run []))
-            (λ t h k. wish-same g s.world (HasFired g all s) (FiredWith g args accepted all valid s sound state i b c run []) (λ j z h. inl h) t.0 t.1 t.2 (h k))
+            (λ t h k. wish-same g s.world (HasFired g all s) (FiredWith g args accepted all valid s sound state i b c run []) (λ j z h. inl h)
+            t.0 t.1 t.2 (h k))
             state.tags state.of_firings;
         apart = state.apart;
         kept = kept-same g s.world (HasFired g all s) (FiredWith g args accepted all valid s sound state i b c run []) (IsTagged state.tags)
@@ -93,7 +94,8 @@ module _ (g : Graph) (args : List ℕ) (accepted : IsAccepted g) (all : Partitio
       })
       (record { world = sound.world; grows = grows-same s.world; sends = tt })
       (order-ready g args accepted all s i b c valid sound run) order-inside
-      (order-each (λ y. y < length (block_of_act g s i b).vertices) (block_of_act g s i b).edges the_class (run-within g args accepted all s i b c valid sound run))
+      (order-each (λ y. y < length (block_of_act g s i b).vertices) (block_of_act g s i b).edges the_class
+      (run-within g args accepted all s i b c valid sound run))
       (order-distinct (block_of_act g s i b).edges acyclic the_class) (λ z h k. h) (λ z h. absurd h)
       (order-ordered (block_of_act g s i b).edges the_class acyclic)
     where
@@ -172,7 +174,8 @@ module _ (g : Graph) (args : List ℕ) (accepted : IsAccepted g) (all : Partitio
             sym p,
             (
               h.place,
-              in-done [] the_order h.place (inr (has-in the_order h.place (order-all (block_of_act g s i b).edges the_class h.place (in-has the_class h.place inside)))),
+              in-done [] the_order h.place
+                  (inr (has-in the_order h.place (order-all (block_of_act g s i b).edges the_class h.place (in-has the_class h.place inside)))),
               subst (λ m. (vertex_at (block_graph (its_code g s.world i) m) h.place).inlet ≡ false) (sym q)
                   (subst (λ m. (vertex_at (block_graph (code_of g m) h.block) h.place).inlet ≡ false) code h.no_inlet),
               subst (λ m. (vertex_at (block_graph (its_code g s.world i) m) h.place).node ≡ z) (sym q)
@@ -216,10 +219,10 @@ module _ (g : Graph) (args : List ℕ) (accepted : IsAccepted g) (all : Partitio
     where
       place : In h.1.0 the_class × (h.1.0 < length (block_of_act g s i b).vertices)
       place = ⊎_elim (λ k. absurd k) (λ k. (
-          each-in (λ y. In y the_class) the_order h.1.0 order-inside k,
-          each-in (λ y. y < length (block_of_act g s i b).vertices) the_order h.1.0 (order-each (λ y. y < length (block_of_act g s i b).vertices)
-              (block_of_act g s i b).edges the_class (run-within g args accepted all s i b c valid sound run)) k,
-        )) (done-in [] the_order h.1.0 h.1.1)
+        each-in (λ y. In y the_class) the_order h.1.0 order-inside k,
+        each-in (λ y. y < length (block_of_act g s i b).vertices) the_order h.1.0 (order-each (λ y. y < length (block_of_act g s i b).vertices)
+            (block_of_act g s i b).edges the_class (run-within g args accepted all s i b c valid sound run)) k,
+      )) (done-in [] the_order h.1.0 h.1.1)
 
   -- the state behind the run keeps what the state kept
   pub kept-run : IsKeptState g all after
@@ -244,15 +247,15 @@ module _ (g : Graph) (args : List ℕ) (accepted : IsAccepted g) (all : Partitio
       arrived : (m : Message) → HasArrived s m → HasArrived after m
       arrived m h = (h.0, still h.0 m h.1, h.2)
 
-      old-inlet : (j d e y : ℕ) → has_run s j d e ≡ true → In y (class_at (parts_of_act g all after j d) e) → (vertex_at (block_of_act g after j d) y).inlet ≡ true
-          → HasSome after j (vertex_at (block_of_act g after j d) y).node
+      old-inlet : (j d e y : ℕ) → has_run s j d e ≡ true → In y (class_at (parts_of_act g all after j d) e)
+          → (vertex_at (block_of_act g after j d) y).inlet ≡ true → HasSome after j (vertex_at (block_of_act g after j d) y).node
       old-inlet j d e y k = subst (λ n. In y (class_at (parts_of all n d) e) → (vertex_at (block_graph (code_of g n) d) y).inlet ≡ true
           → HasSome after j (vertex_at (block_graph (code_of g n) d) y).node) (sym (run-onward.code j (ran-there j d e k)))
           (λ m t. let h = state.inlets j d e y k m t in (h.0, run-onward.words j (vertex_at (block_of_act g s j d) y).node h.0 h.1))
 
       now-inlet : (y : ℕ) → In y (class_at (parts_of_act g all s i b) c) → (vertex_at (block_of_act g s i b) y).inlet ≡ true
           → HasSome after i (vertex_at (block_of_act g s i b) y).node
-      now-inlet y m t = word (rw t at (all-in (λ x. elim (vertex_at (block_of_act g s i b) x).inlet [ true ↦ has_word s.world i (vertex_at (block_of_act g s i b) x).node | false ↦ true ]) the_class run.inlets y m))
+      now-inlet y m t = word (rw t at (all-in _ the_class run.inlets y m))
         where
           word : has_word s.world i (vertex_at (block_of_act g s i b) y).node ≡ true → HasSome after i (vertex_at (block_of_act g s i b) y).node
           word h =

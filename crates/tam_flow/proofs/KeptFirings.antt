@@ -1,5 +1,5 @@
 -- A node that fires for the first time, in an open block and with words of its operands, gives words to nodes that have none, and the world keeps what it kept.
-use Rattle.std.proofs.Common.{◌≡◌, ℕ, zero, suc, ◌<◌, Bool, true, false, ◌==◌, List, [], ◌∷◌, Some, None, length, slice_get, refl, sym, ap, ◌∙◌, subst}
+use Rattle.std.proofs.Common.{◌≡◌, ℕ, ◌<◌, true, List, [], ◌∷◌, Some, None, length, slice_get, refl, sym, ap, ◌∙◌, subst}
 use Rattle.std.proofs.Common.{inl, inr, ◌⊎◌, ⊎_elim, true≢false}
 use Rattle.tam_msgs.specs.declared.message.Message.{Message}
 use Rattle.tam_graph.specs.declared.kind.Kind.{Kind}
@@ -18,9 +18,10 @@ use Rattle.tam_flow.proofs.Nodes.{line, cond-operand}
 use Rattle.tam_flow.proofs.FiringReasons.{HaveThese}
 use Rattle.tam_flow.proofs.BranchOwners.{body-owner, chosen-owner, switch-one, leave-one}
 use Rattle.tam_flow.proofs.Gifts.{gift, opens, Leaves, leaves-firing}
-use Rattle.tam_flow.proofs.Givers.{is_received, GivenTo, Itself, Inwards, Outwards, given-to, given-no_message, IsChosen, opens-chosen}
+use Rattle.tam_flow.proofs.Givers.{is_received, GivenTo, Itself, Inwards, Outwards, given-to, given-no_message, opens-chosen}
 use Rattle.tam_flow.proofs.Onward.{Onward, word-one, have-later, fires-with}
-use Rattle.tam_flow.proofs.Kept.{IsGift, IsEntered, HasDone, IsKept, IsWish, CallersThere, gift-later, entered-later, received-later, open-later, sends-later, done-later}
+use Rattle.tam_flow.proofs.Kept.{IsGift, IsEntered, HasDone, IsKept, IsWish, CallersThere, gift-later, entered-later, received-later, open-later, sends-later}
+use Rattle.tam_flow.proofs.Kept.{done-later}
 use Rattle.tam_flow.proofs.Kept.{word-act}
 
 -- what the owner of a block is
@@ -196,8 +197,12 @@ module _ (g : Graph) (accepted : IsAccepted g) (w : World) (F : ℕ → ℕ → 
         this-done = record {
           words = vs;
           have = this-have;
-          sent = λ m a. inr (refl, refl, subst (λ (f : Effect). In m f.sends) (sym fires)
-              (subst (λ l. In m l) (sends-later g w e.world on-firing callers i x vs there) a));
+          sent = λ m a. inr (
+            refl,
+            refl,
+            subst (λ (f : Effect). In m f.sends) (sym fires)
+                (subst (λ l. In m l) (sends-later g w e.world on-firing callers i x vs there) a),
+          );
           gave = subst (λ n. (y : ℕ) → In y (gift (code_of g n) x (kind_at (code_of g n) x) vs).0
               → word_of e.world i y ≡ (gift (code_of g n) x (kind_at (code_of g n) x) vs).1 ∷ []) (sym same) (λ y a. leaves.given y there a);
           entered = subst (λ n. (b : ℕ) → In b (opens (code_of g n) x (kind_at (code_of g n) x) vs) → has_entered e.world i b ≡ true) (sym same)
@@ -208,8 +213,8 @@ module _ (g : Graph) (accepted : IsAccepted g) (w : World) (F : ℕ → ℕ → 
             same = leaves.frames.code i
 
         -- a word that it gives is its gift
-        this-gift : (y u : ℕ) → In y (gift (its_code g w i) x (kind_of g w i x) vs).0 → word_of e.world i y ≡ (gift (its_code g w i) x (kind_of g w i x) vs).1 ∷ []
-            → word_of e.world i y ≡ u ∷ [] → IsGift g e.world AndThis i y u
+        this-gift : (y u : ℕ) → In y (gift (its_code g w i) x (kind_of g w i x) vs).0
+            → word_of e.world i y ≡ (gift (its_code g w i) x (kind_of g w i x) vs).1 ∷ [] → word_of e.world i y ≡ u ∷ [] → IsGift g e.world AndThis i y u
         this-gift y u a k h = record {
           node = x;
           words = vs;

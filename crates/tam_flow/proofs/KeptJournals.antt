@@ -1,6 +1,6 @@
 -- Behind each legal journal in which each node is sent one word at most, the state keeps firings, messages and words.
-use Rattle.std.proofs.Common.{◌≡◌, ℕ, zero, suc, ◌^◌, ◌<◌, Bool, true, false, ◌==◌, not, List, [], ◌∷◌, ◌++◌, map, zip, Option, Some, None, is_none, length}
-use Rattle.std.proofs.Common.{nat_lt, slice_get, refl, sym, ap, ◌∙◌, arith, subst, inl, inr, true≢false}
+use Rattle.std.proofs.Common.{◌≡◌, ℕ, zero, suc, ◌^◌, ◌<◌, Bool, true, false, not, List, [], ◌∷◌, zip, Option, Some, None, is_none, length}
+use Rattle.std.proofs.Common.{nat_lt, slice_get, refl, sym, ap, ◌∙◌, arith, inl, inr, true≢false}
 use Rattle.std.specs.List.{AllByRecursion}
 use Rattle.tam_word.specs.Lists.{below, has}
 use Rattle.tam_msgs.specs.declared.message.Message.{Message}
@@ -8,16 +8,16 @@ use Rattle.tam_msgs.specs.declared.message.Message.TheVariants.{Word as Carry}
 use Rattle.tam_graph.specs.Graphs.{Graph, code_of, kind_at, node_where, is_param}
 use Rattle.tam_graph.specs.Accepted.{IsAccepted}
 use Rattle.tam_split.specs.GraphPartitions.{Partitions, are_valid}
-use Rattle.tam_word.proofs.Tests.{and-left, and-right, not-true}
+use Rattle.tam_word.proofs.Tests.{and-right, not-true}
 use Rattle.tam_word.proofs.Each.{all-append, all-at_place, all-flat, all-map, all-more}
-use Rattle.tam_flow.specs.Worlds.{World, Delivery, Went, Printed, Faulted, delivered, opening, argument_message, word_of, has_entered}
-use Rattle.tam_flow.specs.Journals.{State, Event, Run, Deliver, initial, class_fired, block_of_act, parts_of_act, or_message, after_delivery, deliver_all}
+use Rattle.tam_flow.specs.Worlds.{Delivery, Went, Printed, Faulted, delivered, opening, argument_message, word_of, has_entered}
+use Rattle.tam_flow.specs.Journals.{State, Event, Run, Deliver, initial, class_fired, block_of_act, or_message, after_delivery, deliver_all}
 use Rattle.tam_flow.specs.Journals.{after_event, may_run, may_arrive, may_follow, is_legal_from, state_from, state_after}
 use Rattle.tam_flow.specs.JournalLaws.{IsJournal}
-use Rattle.tam_flow.specs.Reached.{IsThere, WasSent, HasArrived}
+use Rattle.tam_flow.specs.Reached.{IsThere}
 use Rattle.tam_flow.proofs.ActivationCounts.{size-from}
 use Rattle.tam_flow.proofs.ActivationLists.{entered-first}
-use Rattle.tam_flow.proofs.Deliveries.{IsSoundEffect, IsSoundDelivery, deliver}
+use Rattle.tam_flow.proofs.Deliveries.{IsSoundDelivery, deliver}
 use Rattle.tam_flow.proofs.Growing.{grows-same}
 use Rattle.tam_flow.proofs.Justified.{IsMessage}
 use Rattle.tam_flow.proofs.Nodes.{where-each, is-param}
@@ -161,8 +161,8 @@ module _ (g : Graph) (args : List ℕ) (accepted : IsAccepted g) (all : Partitio
       go false k ih = absurd (true≢false (sym (rw (is_legal_from, k) at legal)))
 
 -- so does the state behind a journal
-pub kept-journal : (g : Graph) (all : Partitions) (args : List ℕ) (events : List Event) → IsJournal g all args events → OneWordSent (state_after g all args events)
-    → IsKeptState g all (state_after g all args events)
+pub kept-journal : (g : Graph) (all : Partitions) (args : List ℕ) (events : List Event) → IsJournal g all args events
+    → OneWordSent (state_after g all args events) → IsKeptState g all (state_after g all args events)
 kept-journal g all args events journal once =
     (kept-from g args journal.accepted all journal.valid (initial g args) events journal.few_activations (sound-initial g args journal.accepted)
     (receivers-initial g args journal.accepted all) (kept-initial g args journal.accepted all) once journal.legal).0

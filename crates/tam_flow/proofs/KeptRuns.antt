@@ -1,19 +1,18 @@
 -- When a class runs each of its vertices that fires has words of its operands, and fires for the first time; so the world keeps what it kept.
-use Rattle.std.proofs.Common.{◌≡◌, ℕ, ◌<◌, Bool, true, false, ◌==◌, ◌&&◌, not, List, [], ◌∷◌, ◌++◌, length, map, slice_get, refl, sym, ap, ap₂, ◌∙◌, subst}
-use Rattle.std.proofs.Common.{inl, inr, ◌⊎◌, ⊎_elim, true≢false}
+use Rattle.std.proofs.Common.{◌≡◌, ℕ, ◌<◌, Bool, true, false, ◌==◌, ◌&&◌, not, List, [], ◌∷◌, ◌++◌, length, map, refl, sym, ap, ap₂, ◌∙◌, subst}
+use Rattle.std.proofs.Common.{inl, inr, ◌⊎◌, true≢false}
 use Rattle.std.specs.List.{AllByRecursion}
-use Rattle.tam_word.specs.Lists.{all_of, below}
+use Rattle.tam_word.specs.Lists.{below}
 use Rattle.tam_msgs.specs.declared.message.Message.{Message}
-use Rattle.tam_graph.specs.declared.kind.Kind.{Kind}
-use Rattle.tam_graph.specs.Graphs.{Graph, Code, code_of, kind_at, block_at, operands_of, node_numbers, is_inlet, has_value}
+use Rattle.tam_graph.specs.Graphs.{Graph, Code, code_of, kind_at, block_at, operands_of, is_inlet, has_value}
 use Rattle.tam_graph.specs.Accepted.{IsAccepted}
 use Rattle.tam_graph.proofs.Walks.{is_edge}
-use Rattle.tam_split.specs.Blocks.{BlockGraph, block_graph, vertex_at, or_vertex, vertices_in, edges_among}
+use Rattle.tam_split.specs.Blocks.{BlockGraph, block_graph, vertex_at, or_vertex, vertices_in}
 use Rattle.tam_split.specs.Partitions.{Parts, class_at, class_of, class_edges, directly_before}
-use Rattle.tam_split.specs.GraphPartitions.{Partitions, parts_of, are_valid, firing_order}
+use Rattle.tam_split.specs.GraphPartitions.{Partitions, parts_of, are_valid}
 use Rattle.tam_split.proofs.BlockGraphs.{in-is_edge}
 use Rattle.tam_split.proofs.BlockVertices.{place-at}
-use Rattle.tam_split.proofs.Firers.{Firer, Giver, giver-at, giver-inlet, operand-edge, value-inner, is_inner}
+use Rattle.tam_split.proofs.Firers.{Giver, giver-at, giver-inlet, operand-edge, value-inner, is_inner}
 use Rattle.tam_split.proofs.LeastClasses.{IsValidAt, valid-at, class-below, class-only}
 use Rattle.std.proofs.lemmas.Option.{slice_get_within}
 use Rattle.std.proofs.lemmas.List.{append_assoc}
@@ -21,19 +20,16 @@ use Rattle.tam_word.proofs.Tests.{number-eq, self-eq, true-both}
 use Rattle.tam_word.proofs.Members.{In, in-any, all-in, in-has, map-in, filter-in, below-in, left-in, right-in}
 use Rattle.tam_word.proofs.Each.{all-more, all-append, all-map, in-each}
 use Rattle.tam_flow.specs.Worlds.{World, Effect, activation_at, its_code, word_of, has_word, has_entered, fired}
-use Rattle.tam_flow.specs.Journals.{State, Event, Run, fire_each, class_fired, has_run, block_of_act, parts_of_act, inlets_have_words, those_before_ran}
-use Rattle.tam_flow.specs.Journals.{after_event}
-use Rattle.tam_flow.specs.Reached.{IsThere, kind_of, WasSent, HasArrived, HasSome}
+use Rattle.tam_flow.specs.Journals.{State, has_run, block_of_act, parts_of_act}
+use Rattle.tam_flow.specs.Reached.{kind_of, HasArrived, HasSome}
 use Rattle.tam_flow.proofs.ActivationCounts.{then_one}
 use Rattle.tam_flow.proofs.ActivationLists.{has-word}
 use Rattle.tam_flow.proofs.ClassRuns.{vertex-each}
 use Rattle.tam_flow.proofs.Pairs.{Pairs, pairs-append, fires-once}
-use Rattle.tam_flow.proofs.SoundStates.{IsSoundState, IsRunnable, run-block, run-within}
+use Rattle.tam_flow.proofs.SoundStates.{IsSoundState, IsRunnable, run-block}
 use Rattle.tam_flow.proofs.Running.{in-own_class}
 use Rattle.tam_flow.proofs.SentOnce.{HasFired, one-class}
-use Rattle.tam_flow.proofs.FiringOrder.{IsOrdered}
-use Rattle.tam_flow.proofs.Operands.{HasValue, operand-taken}
-use Rattle.tam_flow.proofs.FiringReasons.{HaveThese}
+use Rattle.tam_flow.proofs.Operands.{operand-taken}
 use Rattle.tam_flow.proofs.Gifts.{gift}
 use Rattle.tam_flow.proofs.Givers.{inner-gives}
 use Rattle.tam_flow.proofs.Onward.{Onward, onward-on, have-all}
@@ -50,8 +46,7 @@ IsTagged tags i x m = In {X = Tag} (m, i, x) tags
 abbrev pub IsOfFiring : Graph → World → (ℕ → ℕ → Type 0) → Tag → Type 0
 IsOfFiring g w F t = asks t.0 ≡ true → IsWish g w F t.0 t.1 t.2
 
--- each message has its sender, each wish one of its own; a world keeps firings and messages of the state; an inlet of a class that ran has a word,
--- and such a class is there
+-- each message has its sender, each wish one of its own; the world keeps firings and messages; what ran is there, and its inlets have words
 pub record IsKeptState (g : Graph) (all : Partitions) (s : State) : Type 0 where
   pub tags : List Tag
   pub same : map (λ t. t.0) tags ≡ s.sent
@@ -136,7 +131,8 @@ module _ (g : Graph) (args : List ℕ) (accepted : IsAccepted g) (all : Partitio
       node-in_block = vertex-each the_code b y within
 
       -- the place of an operand's value: it is done or its class has run, so the operand has a word
-      giver-has : (a d : ℕ) → has_value (kind_at the_code a) ≡ true → Giver the_code b d a → In (d, y) the_block.edges → (u : ℕ) × (word_of e.world i a ≡ u ∷ [])
+      giver-has : (a d : ℕ) → has_value (kind_at the_code a) ≡ true → Giver the_code b d a → In (d, y) the_block.edges
+          → (u : ℕ) × (word_of e.world i a ≡ u ∷ [])
       giver-has a d value giver edge = go (class_of the_parts d == c) refl (is_inlet (kind_at the_code a)) refl
         where
           place : d < length the_block.vertices
@@ -158,12 +154,14 @@ module _ (g : Graph) (args : List ℕ) (accepted : IsAccepted g) (all : Partitio
           later h = (h.0, so_far.on.words i a h.0 (subst (λ z. word_of s.world i z ≡ h.0 ∷ []) its-node h.1))
 
           inlet-now : In d the_class → (vertex_at the_block d).inlet ≡ true → has_word s.world i (vertex_at the_block d).node ≡ true
-          inlet-now m t = let h = all-in (λ x. elim (vertex_at the_block x).inlet [ true ↦ has_word s.world i (vertex_at the_block x).node | false ↦ true ]) the_class run.inlets d m in rw t at h
+          inlet-now m t = let h = all-in _ the_class run.inlets d m in rw t at h
 
           ran : (class_of the_parts d == c) ≡ false → has_run s i b (class_of the_parts d) ≡ true
           ran differ =
-              let h = all-in (λ k. elim (directly_before the_block.edges the_parts k c) [ true ↦ has_run s i b k | false ↦ true ]) (below (length the_parts)) run.before (class_of the_parts d) (below-in (class_of the_parts d) (length the_parts) (class-below the_parts d (parts-valid.once d place))) in
-              rw (directly-before the_block.edges the_parts d y c edge (class-only the_parts c y (parts-valid.once y within) (in-has the_class y inside)) differ) at h
+              let own_class = class-only the_parts c y (parts-valid.once y within) (in-has the_class y inside) in
+              let h = all-in _ (below (length the_parts)) run.before (class_of the_parts d)
+              (below-in (class_of the_parts d) (length the_parts) (class-below the_parts d (parts-valid.once d place))) in
+              rw (directly-before the_block.edges the_parts d y c edge own_class differ) at h
 
           go : (t : Bool) → (class_of the_parts d == c) ≡ t → (k : Bool) → is_inlet (kind_at the_code a) ≡ k → (u : ℕ) × (word_of e.world i a ≡ u ∷ [])
           go true p true q =
@@ -174,18 +172,18 @@ module _ (g : Graph) (args : List ℕ) (accepted : IsAccepted g) (all : Partitio
               inner-has a (inr (refl, (d, before d m (in-is_edge the_block.edges d y edge), its-inlet ∙ q, its-node))) value q
           go false p true q = later (state.inlets i b (class_of the_parts d) d (ran p) own (its-inlet ∙ q))
           go false p false q = inner-has a (inl (record {
-              there = run.there;
-              code = (activation_at s.world i).code;
-              block = b;
-              class = class_of the_parts d;
-              place = d;
-              is_code = refl;
-              ran = ran p;
-              inside = own;
-              within = place;
-              no_inlet = its-inlet ∙ q;
-              node = its-node;
-            })) value q
+            there = run.there;
+            code = (activation_at s.world i).code;
+            block = b;
+            class = class_of the_parts d;
+            place = d;
+            is_code = refl;
+            ran = ran p;
+            inside = own;
+            within = place;
+            no_inlet = its-inlet ∙ q;
+            node = its-node;
+          })) value q
 
       -- so each operand of a place that fires has a word
       operand-has : (vertex_at the_block y).inlet ≡ false → (a : ℕ) → In a (operands_of the_code (kind_at the_code the_node))
@@ -286,7 +284,8 @@ module _ (g : Graph) (args : List ℕ) (accepted : IsAccepted g) (all : Partitio
                     have.0 new opened callers have.1 o m))));
                 apart = pairs-append TagApart so_far.tags (tagged_with i the_node (fired g e.world i the_node).sends) so_far.apart
                     (fired-apart g e.world i the_node)
-                    (all-more (IsOfFiring g e.world (FiredWith done)) (λ t. AllByRecursion (TagApart t) (tagged_with i the_node (fired g e.world i the_node).sends))
+                    (all-more (IsOfFiring g e.world (FiredWith done))
+                    (λ t. AllByRecursion (TagApart t) (tagged_with i the_node (fired g e.world i the_node).sends))
                     (λ t h. all-map (TagApart t) (λ o. (o, i, the_node)) (fired g e.world i the_node).sends
                     (in-each (λ o. TagApart t (o, i, the_node)) (fired g e.world i the_node).sends (λ o m p q r k. new (moved (h p).fired r k)))) so_far.tags
                     so_far.of_firings);

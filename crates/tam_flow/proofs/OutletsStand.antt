@@ -1,20 +1,21 @@
 -- What each outlet that ran has done, by what it does and the words of its operands.
-use Rattle.std.proofs.Common.{◌≡◌, ℕ, ◌^◌, ◌<◌, Bool, true, false, ◌==◌, ◌&&◌, List, [], ◌∷◌, map, Option, Some, length, slice_get, nat_lt, refl, sym, ap, ◌∙◌}
+use Rattle.std.proofs.Common.{◌≡◌, ℕ, ◌<◌, true, false, ◌==◌, ◌&&◌, List, [], ◌∷◌, map, Some, length, slice_get, nat_lt, refl, sym, ap, ◌∙◌}
 use Rattle.std.proofs.Common.{arith, subst, inl}
 use Rattle.tam_msgs.specs.declared.message.Message.{Message}
 use Rattle.tam_msgs.specs.declared.message.Message.TheVariants.{Word as Carry, Frame as Begin, Cells as Make, Fetch as Ask_cell, Store as Put_cell}
 use Rattle.tam_msgs.specs.Messages.{outside, site}
 use Rattle.tam_graph.specs.declared.kind.Kind.{Kind}
 use Rattle.tam_graph.specs.declared.kind.Kind.TheVariants.{Param, Call, Arg, Ret, Give, Alloc, Fetch, Store, Cond, Switch, Merge, Enter, Leave}
-use Rattle.tam_graph.specs.Graphs.{Graph, code_of, kind_at, block_at, callee_of, callee_of_kind, chosen_branch, test_of, owner_of, one_or_none, node_where, operands_of}
+use Rattle.tam_graph.specs.Graphs.{Graph, code_of, kind_at, block_at, callee_of, callee_of_kind, chosen_branch, test_of, owner_of, one_or_none, node_where}
+use Rattle.tam_graph.specs.Graphs.{operands_of}
 use Rattle.tam_graph.specs.Graphs.{node_in, is_param, is_ret, is_merge, is_enter}
 use Rattle.tam_graph.specs.Written.{is_operand, is_call_node, is_cond_node}
 use Rattle.tam_graph.proofs.AcceptedFacts.{node-there}
 use Rattle.tam_graph.proofs.Branches.{block-there}
 use Rattle.tam_split.specs.GraphPartitions.{Partitions}
 use Rattle.tam_word.proofs.Tests.{and-left, below-test, eq-number}
-use Rattle.tam_word.proofs.Members.{In, map-in, flat_map-in}
-use Rattle.tam_flow.specs.Worlds.{activation_at, its_code, has_entered, result_message, merges_of, firing_of}
+use Rattle.tam_word.proofs.Members.{In, flat_map-in}
+use Rattle.tam_flow.specs.Worlds.{activation_at, its_code, result_message, firing_of}
 use Rattle.tam_flow.specs.Journals.{State, Event, state_after}
 use Rattle.tam_flow.specs.JournalLaws.{IsJournal}
 use Rattle.tam_flow.specs.Reached.{IsThere, kind_of, Ran, Has, WasSent, ActivationsStand, OutletsDid}
@@ -85,7 +86,8 @@ module _ (g : Graph) (all : Partitions) (args : List ℕ) (events : List Event) 
 
       at_call : (d : ℕ) × (kind_of g s.world i f ≡ Call d)
       at_call = call-operand (its_code g s.world i) f (and-left (is_call_node (its_code g s.world i) f) (is_operand (its_code g s.world i) a && nat_lt k 64)
-          (line g journal.accepted (activation_at s.world i).code here y (Arg f k a) (there-by (activation_at s.world i).code y (Arg f k a) kind (λ q. cc)) kind))
+          (line g journal.accepted (activation_at s.world i).code here y (Arg f k a)
+          (there-by (activation_at s.world i).code y (Arg f k a) kind (λ q. cc)) kind))
 
       called : (0 < p) × IsThere s.world p × ((activation_at s.world p).caller ≡ i) × ((activation_at s.world p).call ≡ f)
       called = (words-suit g args journal.accepted all s sound wishes i f p hf).by_call at_call.0 at_call.1

@@ -1,7 +1,7 @@
 -- The state behind each legal journal is reached, given what is shown of arrays, arrivals, and of one word and one store for each receiver.
-use Rattle.std.proofs.Common.{◌≡◌, ◌≢◌, ℕ, true, false, List, [], ◌∷◌, Option, Some, None, slice_get, Contains}
+use Rattle.std.proofs.Common.{◌≡◌, ◌≢◌, ℕ, true, false, List, [], Some, None, slice_get, Contains}
 use Rattle.tam_word.specs.Lists.{has}
-use Rattle.tam_msgs.specs.declared.message.Message.TheVariants.{Word as Carry, Frame as Begin, Cells as Make, Fetch as Ask_cell, Store as Put_cell}
+use Rattle.tam_msgs.specs.declared.message.Message.TheVariants.{Word as Carry, Fetch as Ask_cell, Store as Put_cell}
 use Rattle.tam_msgs.specs.Messages.{outside}
 use Rattle.tam_istr.specs.Cells.{Reader, Empty, Filled}
 use Rattle.tam_graph.specs.Graphs.{Graph}

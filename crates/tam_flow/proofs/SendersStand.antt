@@ -1,7 +1,6 @@
 -- Whoever sent a wish has run, with the words that the wish says, and each store that ran is the sender of its message.
-use Rattle.std.proofs.Common.{◌≡◌, ℕ, zero, suc, Bool, true, false, List, [], ◌∷◌, map, Option, Some, None, length, slice_get, refl, sym, ap, ◌∙◌, subst, inl, inr}
-use Rattle.std.proofs.Common.{⊎_elim, true≢false}
-use Rattle.std.specs.List.{AllByRecursion}
+use Rattle.std.proofs.Common.{◌≡◌, ℕ, zero, suc, true, List, [], ◌∷◌, map, Option, Some, length, slice_get, refl, sym, ap, ◌∙◌, subst, inl}
+use Rattle.std.proofs.Common.{⊎_elim}
 use Rattle.tam_msgs.specs.declared.message.Message.{Message}
 use Rattle.tam_msgs.specs.declared.message.Message.TheVariants.{Frame as Begin, Cells as Make, Fetch as Ask_cell, Store as Put_cell}
 use Rattle.tam_msgs.specs.Messages.{site}
@@ -222,12 +221,14 @@ module _ (g : Graph) (all : Partitions) (args : List ℕ) (events : List Event) 
   -- a store that ran is the sender of its message
   pub store-sent_by : (i x a j b t u v : ℕ) → Ran g all (state_after g all args events) i x → kind_of g (state_after g all args events).world i x ≡ Store a j b
       → Has (state_after g all args events) i a t → Has (state_after g all args events) i j u → Has (state_after g all args events) i b v
-      → (n : ℕ) × (slice_get (state_after g all args events).sent n ≡ Some (Put_cell t u v (site (activation_at (state_after g all args events).world i).code x)))
+      → (n : ℕ)
+      × (slice_get (state_after g all args events).sent n ≡ Some (Put_cell t u v (site (activation_at (state_after g all args events).world i).code x)))
       × (slice_get senders n ≡ Some (i, x))
   unfolding senders
   store-sent_by i x a j b t u v ran kind ha hj hb =
       let d = done-with g args all s journal.valid sound state i x (Store a j b) (t ∷ u ∷ v ∷ []) ran kind (ha, (hj, (hb, tt))) in
-      let r = in-get {X = Tag} (Put_cell t u v (site (activation_at s.world i).code x), i, x) state.tags (d.tagged (Put_cell t u v (site (activation_at s.world i).code x)) (inl refl)) in (
+      let r = in-get {X = Tag} (Put_cell t u v (site (activation_at s.world i).code x), i, x) state.tags
+      (d.tagged (Put_cell t u v (site (activation_at s.world i).code x)) (inl refl)) in (
         r.0,
         subst (λ l. slice_get l r.0 ≡ Some (Put_cell t u v (site (activation_at s.world i).code x))) state.same
             (get-map (λ t. t.0) state.tags r.0 (Put_cell t u v (site (activation_at s.world i).code x), i, x) r.1),

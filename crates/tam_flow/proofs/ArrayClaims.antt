@@ -254,8 +254,10 @@ module _ (g : Graph) (all : Partitions) (args : List ℕ) (s : State) (acc : IsA
     array-length p y len u l same (i, num, out, ran, have) =
         let parts = array-eq p (path_of s.world (maker_of s.world u).0) y (maker_of s.world u).1 same in
         let made = reached.arrays.lengths u l in
-        let one : (maker_of s.world u).0 ≡ i = same-number g all args s reached p (maker_of s.world u).0 i (reached.arrays.makers_there u l,
-            sym parts.0) num in
+        let one : (maker_of s.world u).0 ≡ i = same-number g all args s reached p (maker_of s.world u).0 i (
+          reached.arrays.makers_there u l,
+          sym parts.0,
+        ) num in
         let k : kind_of g s.world i y ≡ Alloc made.0 =
         subst (λ z. kind_of g s.world z y ≡ Alloc made.0) one (subst (λ z. kind_of g s.world (maker_of s.world u).0 z ≡ Alloc made.0)
         (sym parts.1) made.1) in

@@ -1,17 +1,16 @@
 -- The branches of a cond of an accepted graph are opened by it, and the body by none; so a switch and an out are told by their places.
-use Rattle.std.proofs.Common.{◌≡◌, ℕ, zero, suc, ◌+◌, ◌<◌, true, ◌==◌, ◌&&◌, List, [], ◌∷◌, zip, Option, Some, None, length, slice_get, refl, sym, ap, ◌∙◌, arith, subst, inl, inr}
+use Rattle.std.proofs.Common.{◌≡◌, ℕ, zero, suc, ◌+◌, ◌<◌, true, ◌==◌, ◌&&◌, List, [], ◌∷◌, zip, Option, Some, None, length, slice_get, refl, sym, ap, ◌∙◌}
+use Rattle.std.proofs.Common.{arith, subst, inl, inr}
 use Rattle.std.specs.List.{AllByRecursion}
-use Rattle.tam_word.specs.Lists.{below}
-use Rattle.tam_graph.specs.declared.kind.Kind.{Kind}
 use Rattle.tam_graph.specs.declared.kind.Kind.TheVariants.{Cond, Switch, Enter, Leave}
-use Rattle.tam_graph.specs.Graphs.{Graph, Code, code_of, kind_at, block_at, blocks_of, chosen_branch, branch_of_kind, node_in, nodes_in, is_enter}
+use Rattle.tam_graph.specs.Graphs.{Graph, Code, code_of, kind_at, block_at, blocks_of, chosen_branch, branch_of_kind}
 use Rattle.tam_graph.specs.Accepted.{IsAccepted}
 use Rattle.tam_graph.specs.Written.{IsWritten, in_opening_order}
 use Rattle.tam_graph.proofs.Visits.{node-visited, both-opened}
 use Rattle.tam_graph.proofs.AcceptedFacts.{node-there}
-use Rattle.tam_graph.proofs.Branches.{branches-later, block-there}
-use Rattle.tam_word.proofs.Tests.{true-both, self-eq, below-test}
-use Rattle.tam_word.proofs.Each.{all-more, each-in}
+use Rattle.tam_graph.proofs.Branches.{branches-later}
+use Rattle.tam_word.proofs.Tests.{true-both, self-eq}
+use Rattle.tam_word.proofs.Each.{each-in}
 use Rattle.tam_word.proofs.Members.{In, below-in}
 use Rattle.tam_flow.proofs.SoundStates.{counted, below-counted}
 use Rattle.tam_flow.proofs.InterfacePlaces.{place-one}

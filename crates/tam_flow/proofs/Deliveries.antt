@@ -147,8 +147,11 @@ module _ (g : Graph) (args : List ℕ) where
     deliver-carry f x u h = go (f == outside) refl h
       where
         give : (q : Path) × IsNumber w q f × IsValue g args w q x u → IsSoundEffect g args w (changes (got w f x u))
-        give k = record { world = sound-got g args w f x u sound (subst (λ q. IsValue g args w q x u) (sym k.1.1) k.2); grows = grows-got w f x u;
-            sends = tt }
+        give k = record {
+          world = sound-got g args w f x u sound (subst (λ q. IsValue g args w q x u) (sym k.1.1) k.2);
+          grows = grows-got w f x u;
+          sends = tt;
+        }
 
         go : (b : Bool) → (f == outside) ≡ b → IsMessage g args w (Carry f x u) → IsSoundDelivery g args w (delivered w (Carry f x u))
         go true e k = rw (delivered, e) tt

@@ -1,8 +1,8 @@
 -- An outlet that fired has run, and one that ran has done what it does with the words that its operands have.
-use Rattle.std.proofs.Common.{◌≡◌, ℕ, ◌<◌, Bool, true, false, ◌==◌, ◌&&◌, List, [], ◌∷◌, length, refl, sym, ap, ◌∙◌, subst, inl, inr, ◌⊎◌, true≢false}
+use Rattle.std.proofs.Common.{◌≡◌, ℕ, ◌<◌, true, false, ◌==◌, ◌&&◌, List, length, sym, ap, ◌∙◌, subst, inl, inr, true≢false}
 use Rattle.tam_msgs.specs.declared.message.Message.{Message}
 use Rattle.tam_graph.specs.declared.kind.Kind.{Kind}
-use Rattle.tam_graph.specs.Graphs.{Graph, Code, code_of, kind_at, block_at, operands_of, is_outlet}
+use Rattle.tam_graph.specs.Graphs.{Graph, code_of, kind_at, block_at, operands_of, is_outlet}
 use Rattle.tam_word.specs.Lists.{any_of}
 use Rattle.tam_split.specs.declared.vertex.Vertex.{Vertex}
 use Rattle.tam_split.specs.Blocks.{block_graph, vertex_at, places}
@@ -11,7 +11,7 @@ use Rattle.tam_split.specs.GraphPartitions.{Partitions, parts_of, are_valid}
 use Rattle.tam_split.proofs.BlockVertices.{HasShape, at-shape, place-at}
 use Rattle.tam_split.proofs.LeastClasses.{valid-at, class-only}
 use Rattle.tam_word.proofs.Tests.{eq-number, true-both}
-use Rattle.tam_word.proofs.Members.{In, in-any, in-has, filter-in, below-in}
+use Rattle.tam_word.proofs.Members.{In, in-any, in-has, in-get, map-in, filter-in, below-in}
 use Rattle.tam_flow.specs.Worlds.{activation_at, its_code, has_entered, firing_of}
 use Rattle.tam_flow.specs.Journals.{State, has_run}
 use Rattle.tam_flow.specs.Told.{outlet_place}
@@ -24,7 +24,8 @@ use Rattle.tam_flow.proofs.Running.{ran-fired}
 use Rattle.tam_flow.proofs.Gifts.{gift, opens}
 use Rattle.tam_flow.proofs.Onward.{have-one}
 use Rattle.tam_flow.proofs.Kept.{HasDone}
-use Rattle.tam_flow.proofs.KeptRuns.{IsKeptState}
+use Rattle.tam_flow.proofs.KeptRuns.{IsTagged, IsKeptState}
+use Rattle.tam_flow.proofs.Senders.{Tag}
 
 -- a vertex that fires for an outlet is an outlet
 fires-outlet : (x : ℕ) (k : Kind) (v : Vertex) → HasShape x k v → v.inlet ≡ false → is_outlet k ≡ true → v.outlet ≡ true
@@ -57,10 +58,12 @@ fired-ran g args all s valid sound i x h outlet =
         → (vertex_at (block_graph (its_code g s.world i) b) h.place).inlet ≡ false
         → (vertex_at (block_graph (its_code g s.world i) b) h.place).node ≡ x → In h.place (class_at (parts_of all (activation_at s.world i).code b) h.class)
         → has_run s i b h.class ≡ true → b < length (its_code g s.world i).owners
-        → any_of (λ y. has_run s i b (class_of (parts_of all (activation_at s.world i).code b) y)) (outlet_place (block_graph (its_code g s.world i) b) x) ≡ true
+        → any_of (λ y. has_run s i b (class_of (parts_of all (activation_at s.world i).code b) y)) (outlet_place (block_graph (its_code g s.world i) b) x)
+        ≡ true
     here b within none node m ran there =
         in-any (λ y. has_run s i b (class_of (parts_of all (activation_at s.world i).code b) y)) (outlet_place (block_graph (its_code g s.world i) b) x) h.place
-        (filter-in (λ y. (vertex_at (block_graph (its_code g s.world i) b) y).outlet && ((vertex_at (block_graph (its_code g s.world i) b) y).node == x)) h.place
+        (filter-in (λ y. (vertex_at (block_graph (its_code g s.world i) b) y).outlet && ((vertex_at (block_graph (its_code g s.world i) b) y).node == x))
+        h.place
         (places (block_graph (its_code g s.world i) b)) (below-in h.place (length (block_graph (its_code g s.world i) b).vertices) within)
         (true-both (vertex_at (block_graph (its_code g s.world i) b) h.place).outlet ((vertex_at (block_graph (its_code g s.world i) b) h.place).node == x)
         is_out (eq-number _ x node)))
@@ -83,25 +86,31 @@ fired-ran g args all s valid sound i x h outlet =
         → (vertex_at (block_graph (its_code g s.world i) b) h.place).node ≡ x → In h.place (class_at (parts_of all (activation_at s.world i).code b) h.class)
         → has_run s i b h.class ≡ true → b < length (its_code g s.world i).owners → Ran g all s i x
     at b e within none node m ran there =
-        subst (λ d. any_of (λ y. has_run s i d (class_of (parts_of all (activation_at s.world i).code d) y)) (outlet_place (block_graph (its_code g s.world i) d) x) ≡ true) e
+        subst (λ d. any_of (λ y. has_run s i d (class_of (parts_of all (activation_at s.world i).code d) y))
+        (outlet_place (block_graph (its_code g s.world i) d) x) ≡ true) e
         (here b within none node m ran there)
 
--- what node x of activation i of kind k has done with the words vs
-pub record DoneWith (g : Graph) (s : State) (i x : ℕ) (k : Kind) (vs : List ℕ) : Type 0 where
-  pub sent : (m : Message) → In m (firing_of g s.world i x k vs).sends → WasSent s m
+-- what node x of activation i of kind k has done with the words vs, by the messages with their senders
+pub record DoneWith (g : Graph) (s : State) (tags : List Tag) (i x : ℕ) (k : Kind) (vs : List ℕ) : Type 0 where
+  pub tagged : (m : Message) → In m (firing_of g s.world i x k vs).sends → IsTagged tags i x m
   pub gave : (y : ℕ) → In y (gift (its_code g s.world i) x k vs).0 → Has s i y (gift (its_code g s.world i) x k vs).1
   pub entered : (b : ℕ) → In b (opens (its_code g s.world i) x k vs) → has_entered s.world i b ≡ true
 
--- an outlet that ran has done what it does with the words of its operands
-pub done-with : (g : Graph) (args : List ℕ) (all : Partitions) (s : State) → are_valid g all ≡ true → IsSoundState g args s → IsKeptState g all s
-    → (i x : ℕ) (k : Kind) (vs : List ℕ) → Ran g all s i x → kind_of g s.world i x ≡ k → HaveThese s.world i (operands_of (its_code g s.world i) k) vs
-    → DoneWith g s i x k vs
-done-with g args all s valid sound state i x k vs ran kind have = with_words (state.kept.done i x (ran-fired g args all s valid sound i x ran))
-  where
-    with_words : HasDone g s.world (WasSent s) i x → DoneWith g s i x k vs
-    with_words h = subst (λ d. DoneWith g s i x d vs) kind (subst (λ l. DoneWith g s i x (kind_of g s.world i x) l) same
-        (record { sent = h.sent; gave = h.gave; entered = h.entered }))
-      where
-        same : h.words ≡ vs
-        same = have-one s.world i (operands_of (its_code g s.world i) (kind_of g s.world i x)) h.words vs h.have
-            (subst (λ d. HaveThese s.world i (operands_of (its_code g s.world i) d) vs) (sym kind) have)
+module _ (g : Graph) (args : List ℕ) (all : Partitions) (s : State) (valid : are_valid g all ≡ true) (sound : IsSoundState g args s)
+    (state : IsKeptState g all s) where
+  -- an outlet that ran has done what it does with the words of its operands
+  pub done-with : (i x : ℕ) (k : Kind) (vs : List ℕ) → Ran g all s i x → kind_of g s.world i x ≡ k
+      → HaveThese s.world i (operands_of (its_code g s.world i) k) vs → DoneWith g s state.tags i x k vs
+  done-with i x k vs ran kind have = with_words (state.kept.done i x (ran-fired g args all s valid sound i x ran))
+    where
+      with_words : HasDone g s.world (IsTagged state.tags i x) i x → DoneWith g s state.tags i x k vs
+      with_words h = subst (λ d. DoneWith g s state.tags i x d vs) kind (subst (λ l. DoneWith g s state.tags i x (kind_of g s.world i x) l) same
+          (record { tagged = h.sent; gave = h.gave; entered = h.entered }))
+        where
+          same : h.words ≡ vs
+          same = have-one s.world i (operands_of (its_code g s.world i) (kind_of g s.world i x)) h.words vs h.have
+              (subst (λ d. HaveThese s.world i (operands_of (its_code g s.world i) d) vs) (sym kind) have)
+
+  -- a message with a tag was sent
+  pub tagged-was_sent : (i x : ℕ) (m : Message) → IsTagged state.tags i x m → WasSent s m
+  tagged-was_sent i x m h = in-get m s.sent (subst (λ l. In m l) state.same (map-in (λ (t : Tag). t.0) (m, i, x) state.tags h))

@@ -1,7 +1,7 @@
 -- In the order of a class each place stands behind those of the class that have an edge to it.
-use Rattle.std.proofs.Common.{◌≡◌, ℕ, zero, suc, ◌≤◌, Bool, true, false, ◌==◌, ◌&&◌, not, List, [], ◌∷◌, filter, length, refl, sym, ap, arith, inl, inr, ◌⊎◌, ⊎_elim}
-use Rattle.std.proofs.Common.{subst}
-use Rattle.tam_word.specs.Lists.{any_of, first_of, has}
+use Rattle.std.proofs.Common.{◌≡◌, ℕ, zero, suc, ◌≤◌, Bool, true, false, ◌==◌, ◌&&◌, not, List, [], ◌∷◌, filter, length, refl, sym, ap, arith, inl, inr, ◌⊎◌}
+use Rattle.std.proofs.Common.{⊎_elim}
+use Rattle.tam_word.specs.Lists.{first_of, has}
 use Rattle.tam_graph.specs.Edges.{Edges}
 use Rattle.tam_graph.proofs.Walks.{is_edge}
 use Rattle.tam_split.specs.GraphPartitions.{waits_for_none, taken_first, firing_order}

@@ -1,5 +1,5 @@
 -- What a firing gives: the nodes that get a word, the word, and the block that is entered; all else of the world stays.
-use Rattle.std.proofs.Common.{◌≡◌, ℕ, zero, suc, ◌<◌, true, List, [], ◌∷◌, length, slice_get, option_to_list, slice_index_or, Option, Some, None, refl, sym, ap, ◌∙◌, arith}
+use Rattle.std.proofs.Common.{◌≡◌, ℕ, zero, suc, ◌<◌, true, List, [], ◌∷◌, length, slice_get, option_to_list, Some, None, refl, sym, ap, ◌∙◌, arith}
 use Rattle.std.proofs.Common.{subst, inl, inr, ◌⊎◌, ⊎_elim}
 use Rattle.tam_word.specs.Lists.{changed_at}
 use Rattle.tam_word.specs.Words.{meaning}

@@ -1,7 +1,7 @@
 -- Which nodes give words to a node: an inner node to itself, a switch to an `in` of the branch chosen, an `out` to a merge of the branch's cond.
 use Rattle.std.proofs.Common.{◌≡◌, ℕ, Bool, true, false, ◌==◌, List, [], ◌∷◌, Option, Some, None, slice_get, refl, sym, ap, ◌∙◌, subst, inl, inr, true≢false}
 use Rattle.tam_graph.specs.declared.kind.Kind.{Kind}
-use Rattle.tam_graph.specs.declared.kind.Kind.TheVariants.{Param, Const, Op as Operate, Seq, Call, Arg, Ret, Give, Alloc, Fetch, Store, Cond, Switch}
+use Rattle.tam_graph.specs.declared.kind.Kind.TheVariants.{Param, Const, Op as Operate, Seq, Call, Ret, Alloc, Fetch, Cond, Switch}
 use Rattle.tam_graph.specs.declared.kind.Kind.TheVariants.{Merge, Enter, Leave}
 use Rattle.tam_graph.specs.Graphs.{Code, kind_at, block_at, nodes_in, node_numbers, node_where, operands_of, chosen_branch, owner_of, one_or_none}
 use Rattle.tam_graph.specs.Graphs.{is_merge, is_enter}

@@ -1,5 +1,5 @@
 -- What a world keeps of firings and messages: what each node that fired did, with which words, and where each word and each entered block came from.
-use Rattle.std.proofs.Common.{◌≡◌, ℕ, ◌<◌, Bool, true, false, ◌==◌, List, [], ◌∷◌, Option, Some, None, slice_get, refl, sym, ap, ◌∙◌, subst, inl, inr, ◌⊎◌, ⊎_elim}
+use Rattle.std.proofs.Common.{◌≡◌, ℕ, true, false, ◌==◌, List, [], ◌∷◌, Option, Some, None, slice_get, refl, sym, ap, ◌∙◌, subst, inl, inr, ◌⊎◌, ⊎_elim}
 use Rattle.tam_msgs.specs.declared.message.Message.{Message}
 use Rattle.tam_msgs.specs.declared.message.Message.TheVariants.{Word as Carry}
 use Rattle.tam_msgs.specs.Messages.{outside}
@@ -31,7 +31,7 @@ pub record IsEntered (g : Graph) (w : World) (HasFired : ℕ → ℕ → Type 0)
   pub have : HaveThese w i (operands_of (its_code g w i) (kind_of g w i node)) words
   pub among : In b (opens (its_code g w i) node (kind_of g w i node) words)
 
--- node x of activation i has done what it does with the words of its operands; WasSent are the messages that were sent
+-- node x of activation i has done what it does with the words of its operands; WasSent are the messages that it sent
 pub record HasDone (g : Graph) (w : World) (WasSent : Message → Type 0) (i x : ℕ) : Type 0 where
   pub words : List ℕ
   pub have : HaveThese w i (operands_of (its_code g w i) (kind_of g w i x)) words
@@ -41,12 +41,19 @@ pub record HasDone (g : Graph) (w : World) (WasSent : Message → Type 0) (i x :
   pub entered : (b : ℕ) → In b (opens (its_code g w i) x (kind_of g w i x) words) → has_entered w i b ≡ true
 
 -- each node that fired did so in a block that is entered; each word came by a firing or by a message, each block but the body by a firing
-pub record IsKept (g : Graph) (w : World) (HasFired : ℕ → ℕ → Type 0) (WasSent HasArrived : Message → Type 0) : Type 0 where
+pub record IsKept (g : Graph) (w : World) (HasFired : ℕ → ℕ → Type 0) (WasSentBy : ℕ → ℕ → Message → Type 0) (HasArrived : Message → Type 0) : Type 0 where
   pub there : (i x : ℕ) → HasFired i x → IsThere w i
   pub open_block : (i x : ℕ) → HasFired i x → has_entered w i (block_at (its_code g w i) x) ≡ true
-  pub done : (i x : ℕ) → HasFired i x → HasDone g w WasSent i x
+  pub done : (i x : ℕ) → HasFired i x → HasDone g w (WasSentBy i x) i x
   pub sources : (i y u : ℕ) → word_of w i y ≡ u ∷ [] → IsGift g w HasFired i y u ⊎ (HasArrived (Carry i y u) × (is_received (kind_of g w i y) ≡ true))
   pub blocks : (i b : ℕ) → IsThere w i → has_entered w i b ≡ true → (b ≡ 0) ⊎ IsEntered g w HasFired i b
+
+-- node x of activation i fired and sent the message
+pub record IsWish (g : Graph) (w : World) (HasFired : ℕ → ℕ → Type 0) (m : Message) (i x : ℕ) : Type 0 where
+  pub words : List ℕ
+  pub fired : HasFired i x
+  pub have : HaveThese w i (operands_of (its_code g w i) (kind_of g w i x)) words
+  pub among : In m (firing_of g w i x (kind_of g w i x) words).sends
 
 -- an activation whose node has a word is there
 pub word-act : (w : World) (i x u : ℕ) → word_of w i x ≡ u ∷ [] → IsThere w i
@@ -64,8 +71,9 @@ abbrev pub CallersThere : World → Type 0
 CallersThere w = (j : ℕ) → IsThere w j → ((activation_at w j).caller == outside) ≡ false → IsThere w (activation_at w j).caller
 
 -- other words for what fired, was sent and has arrived
-pub kept-same : (g : Graph) (w : World) (F G : ℕ → ℕ → Type 0) (S T A B : Message → Type 0) → ((i x : ℕ) → F i x → G i x) → ((i x : ℕ) → G i x → F i x)
-    → ((m : Message) → S m → T m) → ((m : Message) → A m → B m) → IsKept g w F S A → IsKept g w G T B
+pub kept-same : (g : Graph) (w : World) (F G : ℕ → ℕ → Type 0) (S T : ℕ → ℕ → Message → Type 0) (A B : Message → Type 0)
+    → ((i x : ℕ) → F i x → G i x) → ((i x : ℕ) → G i x → F i x)
+    → ((i x : ℕ) (m : Message) → S i x m → T i x m) → ((m : Message) → A m → B m) → IsKept g w F S A → IsKept g w G T B
 kept-same g w F G S T A B fg gf st ab kept = record {
   there = λ i x h. kept.there i x (gf i x h);
   open_block = λ i x h. kept.open_block i x (gf i x h);
@@ -74,14 +82,18 @@ kept-same g w F G S T A B fg gf st ab kept = record {
   blocks = λ i b t h. ⊎_elim inl (λ k. inr (entered i b k)) (kept.blocks i b t h);
 }
   where
-    done : (i x : ℕ) → HasDone g w S i x → HasDone g w T i x
-    done i x h = record { words = h.words; have = h.have; sent = λ m a. st m (h.sent m a); gave = h.gave; entered = h.entered }
+    done : (i x : ℕ) → HasDone g w (S i x) i x → HasDone g w (T i x) i x
+    done i x h = record { words = h.words; have = h.have; sent = λ m a. st i x m (h.sent m a); gave = h.gave; entered = h.entered }
 
     gave : (i y u : ℕ) → IsGift g w F i y u → IsGift g w G i y u
     gave i y u k = record { node = k.node; words = k.words; fired = fg i k.node k.fired; have = k.have; among = k.among; word = k.word }
 
     entered : (i b : ℕ) → IsEntered g w F i b → IsEntered g w G i b
     entered i b k = record { node = k.node; words = k.words; fired = fg i k.node k.fired; have = k.have; among = k.among }
+
+-- a wish is one in other words for what fired
+pub wish-same : (g : Graph) (w : World) (F G : ℕ → ℕ → Type 0) → ((i x : ℕ) → F i x → G i x) → (m : Message) (i x : ℕ) → IsWish g w F m i x → IsWish g w G m i x
+wish-same g w F G more m i x h = record { words = h.words; fired = more i x h.fired; have = h.have; among = h.among }
 
 module _ (g : Graph) (w v : World) (on : Onward w v) where
   -- a gift stays one
@@ -146,16 +158,27 @@ module _ (g : Graph) (w v : World) (on : Onward w v) where
           (λ b a. on.blocks i b (h.entered b a));
     }
 
+    -- a wish stays one
+    pub wish-later : (F G : ℕ → ℕ → Type 0) → ((i x : ℕ) → F i x → G i x) → (m : Message) (i x : ℕ) → IsThere w i → IsWish g w F m i x → IsWish g v G m i x
+    wish-later F G more m i x t h = record {
+      words = h.words;
+      fired = more i x h.fired;
+      have = subst (λ n. HaveThese v i (operands_of (code_of g n) (kind_at (code_of g n) x)) h.words) (sym (on.code i t))
+          (have-later w v on i (operands_of (its_code g w i) (kind_of g w i x)) h.words h.have);
+      among = subst (λ l. In m l) (sym (sends-later i x h.words t)) h.among;
+    }
+
     -- where nothing fires besides, new words came by messages and new blocks are bodies, a world keeps what it kept
-    pub kept-later : (F G : ℕ → ℕ → Type 0) (S T A B : Message → Type 0) → ((i x : ℕ) → F i x → G i x) → ((i x : ℕ) → G i x → F i x)
-        → ((m : Message) → S m → T m) → ((m : Message) → A m → B m)
+    pub kept-later : (F G : ℕ → ℕ → Type 0) (S T : ℕ → ℕ → Message → Type 0) (A B : Message → Type 0)
+        → ((i x : ℕ) → F i x → G i x) → ((i x : ℕ) → G i x → F i x)
+        → ((i x : ℕ) (m : Message) → S i x m → T i x m) → ((m : Message) → A m → B m)
         → ((i y u : ℕ) → word_of v i y ≡ u ∷ [] → (word_of w i y ≡ u ∷ []) ⊎ (B (Carry i y u) × (is_received (kind_of g v i y) ≡ true)))
         → ((i b : ℕ) → IsThere v i → has_entered v i b ≡ true → (IsThere w i × (has_entered w i b ≡ true)) ⊎ (b ≡ 0))
         → IsKept g w F S A → IsKept g v G T B
     kept-later F G S T A B fg gf st ab new_word new_block kept = record {
       there = λ i x h. on.there i (kept.there i x (gf i x h));
       open_block = λ i x h. open-later i x (kept.there i x (gf i x h)) (kept.open_block i x (gf i x h));
-      done = λ i x h. done-later S T st i x (kept.there i x (gf i x h)) (kept.done i x (gf i x h));
+      done = λ i x h. done-later (S i x) (T i x) (st i x) i x (kept.there i x (gf i x h)) (kept.done i x (gf i x h));
       sources = λ i y u h. ⊎_elim (λ k. ⊎_elim (λ a. inl (gift-later F G fg i y u (kept.there i a.node a.fired) a))
           (λ a. inr (ab (Carry i y u) a.0, received-later i y (word-act w i y u k) a.1)) (kept.sources i y u k)) inr (new_word i y u h);
       blocks = λ i b t h. ⊎_elim (λ k. ⊎_elim inl (λ a. inr (entered-later F G fg i b k.0 a)) (kept.blocks i b k.0 k.1)) inl (new_block i b t h);

@@ -1,7 +1,9 @@
 -- The delivery of a message gives a word to a node that has none; so the state behind it keeps firings, messages and words.
-use Rattle.std.proofs.Common.{◌≡◌, ◌≢◌, ℕ, zero, suc, ◌<◌, Bool, true, false, ◌==◌, ◌&&◌, List, [], ◌∷◌, ◌++◌, Option, Some, None, length, slice_get, refl, sym, ap, ◌∙◌, arith}
+use Rattle.std.proofs.Common.{◌≡◌, ◌≢◌, ℕ, zero, suc, ◌<◌, Bool, true, false, ◌==◌, ◌&&◌, List, [], ◌∷◌, ◌++◌, Some, length, slice_get, refl, sym, ap, ap₂}
+use Rattle.std.proofs.Common.{◌∙◌, arith}
 use Rattle.std.proofs.Common.{subst, inl, inr, ◌⊎◌, ⊎_elim, true≢false}
-use Rattle.std.proofs.lemmas.List.{length-append}
+use Rattle.std.proofs.lemmas.List.{length-append, append-nil}
+use Rattle.std.specs.List.{AllByRecursion}
 use Rattle.tam_word.specs.Lists.{any_of, has}
 use Rattle.tam_msgs.specs.declared.message.Message.{Message}
 use Rattle.tam_msgs.specs.declared.message.Message.TheVariants.{Word as Carry, Frame as Begin, Cells as Make, Fetch as Ask_cell, Store as Put_cell}
@@ -11,24 +13,27 @@ use Rattle.tam_graph.specs.Graphs.{Graph, code_of}
 use Rattle.tam_split.specs.Blocks.{block_graph, vertex_at}
 use Rattle.tam_split.specs.Partitions.{class_at}
 use Rattle.tam_split.specs.GraphPartitions.{Partitions, parts_of}
-use Rattle.tam_word.proofs.Tests.{number-eq, eq-number, self-eq}
-use Rattle.tam_word.proofs.Each.{get-left, get-last, last-or_before}
-use Rattle.tam_word.proofs.Members.{In}
-use Rattle.tam_flow.specs.Worlds.{World, ActivationState, Effect, Delivery, Went, Printed, Faulted, begun, or_activation, activation_at, its_code}
+use Rattle.tam_word.proofs.Tests.{eq-number}
+use Rattle.tam_word.proofs.Each.{all-more, all-append, get-left, get-last, last-or_before}
+use Rattle.tam_word.proofs.Members.{In, left-in}
+use Rattle.tam_flow.specs.Worlds.{World, ActivationState, Delivery, Went, Printed, Faulted, begun, or_activation, activation_at, its_code}
 use Rattle.tam_flow.specs.Worlds.{word_of, has_entered, got, accessed}
 use Rattle.tam_flow.specs.Worlds.{delivered}
-use Rattle.tam_flow.specs.Journals.{State, after_delivery, has_run, block_of_act, parts_of_act}
-use Rattle.tam_flow.specs.Reached.{IsThere, kind_of, WasSent, HasArrived, HasSome}
+use Rattle.tam_flow.specs.Journals.{State, after_delivery, has_run, block_of_act}
+use Rattle.tam_flow.specs.Reached.{IsThere, kind_of, HasArrived, HasSome}
 use Rattle.tam_flow.proofs.ActivationLists.{was_entered, entered-first, word_among}
 use Rattle.tam_flow.proofs.Deliveries.{some-below}
 use Rattle.tam_flow.proofs.Growing.{with_begun}
-use Rattle.tam_flow.proofs.Gifts.{gift, HaveGot, got-one}
+use Rattle.tam_flow.proofs.Gifts.{HaveGot, got-one}
 use Rattle.tam_flow.proofs.Givers.{is_received, given-to, given-no_message}
-use Rattle.tam_flow.proofs.Onward.{Onward, onward-same, word-one}
-use Rattle.tam_flow.proofs.SentOnce.{HasFired, arrived-more, arrived-now}
+use Rattle.tam_flow.proofs.Onward.{Onward, word-one}
+use Rattle.tam_flow.proofs.SentOnce.{HasFired, arrived-more, arrived-now, asked-words, words-across}
 use Rattle.tam_flow.proofs.SoundStates.{IsSoundState}
-use Rattle.tam_flow.proofs.Kept.{IsGift, IsKept, word-act, kept-later, received-later}
-use Rattle.tam_flow.proofs.KeptRuns.{IsKeptState}
+use Rattle.tam_flow.proofs.Kept.{IsGift, word-act, kept-later, received-later, wish-later}
+use Rattle.tam_flow.proofs.KeptRuns.{IsTagged, IsOfFiring, IsKeptState}
+use Rattle.tam_flow.proofs.DeliveryChanges.{ComesOf, comes}
+use Rattle.tam_flow.proofs.Pairs.{pairs-append}
+use Rattle.tam_flow.proofs.Senders.{Tag, TagApart, asks, tagged_with, tagged-same, map-append, words-apart}
 use Rattle.tam_flow.proofs.Receivers.{IsForReceiver}
 
 -- one word at most is sent to each node of an activation
@@ -159,7 +164,8 @@ module _ (g : Graph) (w : World) where
           let on = onward-got w f x u none in
           record {
             on = on;
-            words = λ j y v e. ⊎_elim (λ k. inl (sym k ∙ e)) (λ k. inr (new j y v (received-later g w (got w f x u) on f x r.0 r.1) k.0 k.1 k.2 e)) (h.words j y);
+            words = λ j y v e. ⊎_elim (λ k. inl (sym k ∙ e)) (λ k. inr (new j y v (received-later g w (got w f x u) on f x r.0 r.1) k.0 k.1 k.2 e))
+                (h.words j y);
             blocks = λ j b t e. inl (subst (λ n. j < n) h.frames.as_many t, sym (h.blocks j b) ∙ e);
           }
 
@@ -206,7 +212,7 @@ module _ (g : Graph) (w : World) where
   goes-accessed m t j r v NoArray = tt
 
   -- any message
-  pub goes-on : (m : Message) → IsForReceiver g w m → ((f x u : ℕ) → m ≡ Carry f x u → (f == outside) ≡ false → (t : ℕ) → word_of w f x ≡ t ∷ [] → ⊥)
+  goes-on : (m : Message) → IsForReceiver g w m → ((f x u : ℕ) → m ≡ Carry f x u → (f == outside) ≡ false → (t : ℕ) → word_of w f x ≡ t ∷ [] → ⊥)
       → GoesOn g w m (delivered w m)
   goes-on (Carry f x u) for fresh = goes-carry f x u for (fresh f x u refl)
   goes-on (Begin c f x) for fresh = goes-begin c f x
@@ -218,11 +224,22 @@ module _ (g : Graph) (w : World) where
 
 module _ (g : Graph) (args : List ℕ) (all : Partitions) (s : State) (sound : IsSoundState g args s) (state : IsKeptState g all s) where
   -- where a message arrives and the world goes on, the state keeps what it kept
-  kept-on : (v : State) (m : ℕ) (x : Message) → slice_get s.sent m ≡ Some x → IsOnward g s.world v.world x → v.ran ≡ s.ran
-      → ((n : ℕ) (o : Message) → slice_get s.sent n ≡ Some o → slice_get v.sent n ≡ Some o) → v.arrived ≡ m ∷ s.arrived → IsKeptState g all v
-  kept-on v m x is_sent on ran sent arrived = record {
-    kept = kept-later g s.world v.world on.on (λ j t e. (sound.world.callers j t e).0) (HasFired g all s) (HasFired g all v) (WasSent s) (WasSent v)
-        (HasArrived s) (HasArrived v) fired-now fired-then (λ o h. (h.0, sent h.0 o h.1)) came
+  kept-on : (v : State) (m : ℕ) (x : Message) (ms : List Message) → slice_get s.sent m ≡ Some x → IsOnward g s.world v.world x → v.ran ≡ s.ran
+      → v.sent ≡ s.sent ++ ms → AllByRecursion (λ o. asks o ≡ false) ms → v.arrived ≡ m ∷ s.arrived → IsKeptState g all v
+  kept-on v m x ms is_sent on ran sends words arrived = record {
+    tags = state.tags ++ tagged_with 0 0 ms;
+    same = map-append state.tags (tagged_with 0 0 ms) ∙ (ap₂ (λ l k. l ++ k) state.same (tagged-same 0 0 ms) ∙ sym sends);
+    of_firings = all-append (IsOfFiring g v.world (HasFired g all v)) state.tags (tagged_with 0 0 ms)
+        (all-more (IsOfFiring g s.world (HasFired g all s)) (IsOfFiring g v.world (HasFired g all v))
+        (λ t h k. wish-later g s.world v.world on.on (λ j t e. (sound.world.callers j t e).0) (HasFired g all s) (HasFired g all v) fired-now t.0 t.1 t.2
+        (state.kept.there t.1 t.2 (h k).fired) (h k)) state.tags state.of_firings)
+        (all-more (λ t. asks t.0 ≡ false) (IsOfFiring g v.world (HasFired g all v)) (λ t k d. absurd (true≢false (sym d ∙ k))) (tagged_with 0 0 ms)
+        (asked-words 0 0 ms words));
+    apart = pairs-append TagApart state.tags (tagged_with 0 0 ms) state.apart (words-apart 0 0 ms words)
+        (words-across state.tags (tagged_with 0 0 ms) (asked-words 0 0 ms words));
+    kept = kept-later g s.world v.world on.on (λ j t e. (sound.world.callers j t e).0) (HasFired g all s) (HasFired g all v) (IsTagged state.tags)
+        (IsTagged (state.tags ++ tagged_with 0 0 ms)) (HasArrived s) (HasArrived v) fired-now fired-then
+        (λ j z o h. left-in {X = Tag} (o, j, z) state.tags (tagged_with 0 0 ms) h) came
         (λ j y u h. ⊎_elim inl (λ k. inr (this (Carry j y u) k.0, k.1)) (on.words j y u h)) on.blocks state.kept;
     inlets = λ j d e y h. let k = was j d e h in
         subst (λ n. In y (class_at (parts_of all n d) e) → (vertex_at (block_graph (code_of g n) d) y).inlet ≡ true
@@ -232,6 +249,9 @@ module _ (g : Graph) (args : List ℕ) (all : Partitions) (s : State) (sound : I
         subst (λ n. e < length (parts_of all n d)) (sym (on.on.code j (sound.ran j d e k).0)) (state.classes j d e k);
   }
     where
+      sent : (n : ℕ) (o : Message) → slice_get s.sent n ≡ Some o → slice_get v.sent n ≡ Some o
+      sent n o h = subst (λ l. slice_get l n ≡ Some o) (sym sends) (get-left s.sent ms n (some-below s.sent n h) ∙ h)
+
       was : (j d e : ℕ) → has_run v j d e ≡ true → has_run s j d e ≡ true
       was j d e h = subst (λ l. any_of (λ (r : ℕ × ℕ × ℕ). (r.0 == j) && ((r.1 == d) && (r.2 == e))) l ≡ true) ran h
 
@@ -280,7 +300,7 @@ module _ (g : Graph) (args : List ℕ) (all : Partitions) (s : State) (sound : I
   module _ (m : ℕ) (x : Message) (is_sent : slice_get s.sent m ≡ Some x) (new : has s.arrived m ≡ false) (once : OneWordSent s)
       (for : IsForReceiver g s.world x) where
     -- a node to which a word is on its way has none
-    pub fresh-word : (f y u : ℕ) → x ≡ Carry f y u → (f == outside) ≡ false → (t : ℕ) → word_of s.world f y ≡ t ∷ [] → ⊥
+    fresh-word : (f y u : ℕ) → x ≡ Carry f y u → (f == outside) ≡ false → (t : ℕ) → word_of s.world f y ≡ t ∷ [] → ⊥
     fresh-word f y u e inside t h = ⊎_elim by_firing by_message (state.kept.sources f y t h)
       where
         receives : is_received (kind_of g s.world f y) ≡ true
@@ -298,9 +318,11 @@ module _ (g : Graph) (args : List ℕ) (all : Partitions) (s : State) (sound : I
 
     -- so the state behind the delivery keeps what the state kept
     pub kept-delivery : IsKeptState g all (after_delivery s m (delivered s.world x))
-    kept-delivery = go (delivered s.world x) (goes-on g s.world x for fresh-word)
+    kept-delivery = go (delivered s.world x) (goes-on g s.world x for fresh-word) (comes s.world x)
       where
-        go : (d : Delivery) → GoesOn g s.world x d → IsKeptState g all (after_delivery s m d)
-        go (Went e) h = kept-on (after_delivery s m (Went e)) m x is_sent h refl (λ n o k. get-left s.sent e.sends n (some-below s.sent n k) ∙ k) refl
-        go (Printed k v) h = kept-on (after_delivery s m (Printed k v)) m x is_sent (goes-same g s.world s.world x refl) refl (λ n o k. k) refl
-        go (Faulted f) h = kept-on (after_delivery s m (Faulted f)) m x is_sent (goes-same g s.world s.world x refl) refl (λ n o k. k) refl
+        go : (d : Delivery) → GoesOn g s.world x d → ComesOf s.world x d → IsKeptState g all (after_delivery s m d)
+        go (Went e) h c = kept-on (after_delivery s m (Went e)) m x e.sends is_sent h refl refl c.0 refl
+        go (Printed k v) h c =
+            kept-on (after_delivery s m (Printed k v)) m x [] is_sent (goes-same g s.world s.world x refl) refl (sym (append-nil s.sent)) tt refl
+        go (Faulted f) h c =
+            kept-on (after_delivery s m (Faulted f)) m x [] is_sent (goes-same g s.world s.world x refl) refl (sym (append-nil s.sent)) tt refl

@@ -1,8 +1,9 @@
 -- The run of a class leaves a state that keeps firings, messages and words.
 use Rattle.std.proofs.Common.{◌≡◌, ℕ, ◌<◌, Bool, true, false, ◌==◌, ◌&&◌, List, [], ◌∷◌, ◌++◌, length, slice_get, Some, refl, sym, ap, ◌∙◌, subst}
-use Rattle.std.proofs.Common.{inl, inr, ◌⊎◌, ⊎_elim, true≢false}
+use Rattle.std.proofs.Common.{inl, inr, ◌⊎◌, ⊎_elim}
 use Rattle.std.specs.List.{AllByRecursion}
-use Rattle.tam_word.specs.Lists.{any_of, has}
+use Rattle.std.proofs.lemmas.List.{append-nil}
+use Rattle.tam_word.specs.Lists.{any_of}
 use Rattle.tam_msgs.specs.declared.message.Message.{Message}
 use Rattle.tam_graph.specs.Graphs.{Graph, code_of}
 use Rattle.tam_graph.specs.Accepted.{IsAccepted}
@@ -10,11 +11,11 @@ use Rattle.tam_split.specs.Blocks.{block_graph, vertex_at}
 use Rattle.tam_split.specs.Partitions.{class_at}
 use Rattle.tam_split.specs.GraphPartitions.{Partitions, parts_of, are_valid, firing_order}
 use Rattle.tam_word.proofs.Tests.{number-eq, self-eq, true-both, and-left, and-right}
-use Rattle.tam_word.proofs.Members.{In, all-in, in-has, has-in, in-get, get-append, right-in}
+use Rattle.tam_word.proofs.Members.{In, all-in, in-has, has-in}
 use Rattle.tam_word.proofs.Each.{all-more, each-in, in-each, get-left}
-use Rattle.tam_flow.specs.Worlds.{World, Effect, activation_at, its_code, word_of, has_word, fired}
-use Rattle.tam_flow.specs.Journals.{State, Event, Run, fire_each, class_fired, has_run, block_of_act, parts_of_act, after_event}
-use Rattle.tam_flow.specs.Reached.{IsThere, WasSent, HasArrived, HasSome}
+use Rattle.tam_flow.specs.Worlds.{Effect, activation_at, its_code, has_word}
+use Rattle.tam_flow.specs.Journals.{State, Run, fire_each, class_fired, has_run, block_of_act, parts_of_act, after_event}
+use Rattle.tam_flow.specs.Reached.{IsThere, HasArrived, HasSome}
 use Rattle.tam_flow.proofs.ActivationCounts.{then_one}
 use Rattle.tam_flow.proofs.ActivationLists.{has-word}
 use Rattle.tam_flow.proofs.Acyclic.{IsAcyclic, order-all, order-distinct, block-acyclic}
@@ -27,8 +28,8 @@ use Rattle.tam_flow.proofs.Senders.{done_after, done-in}
 use Rattle.tam_flow.proofs.SentOnce.{HasFired}
 use Rattle.tam_flow.proofs.SoundStates.{IsSoundState, IsRunnable, order-ready, run-within}
 use Rattle.tam_flow.proofs.Onward.{Onward, onward-same}
-use Rattle.tam_flow.proofs.Kept.{IsKept, kept-same}
-use Rattle.tam_flow.proofs.KeptRuns.{IsKeptState, IsKeptRun, FiredWith, SentWith, kept-one}
+use Rattle.tam_flow.proofs.Kept.{kept-same, wish-same}
+use Rattle.tam_flow.proofs.KeptRuns.{IsTagged, IsOfFiring, IsKeptState, IsKeptRun, FiredWith, kept-one}
 
 -- what is done stays done, and what is taken in turn is done
 in-done : (done ys : List ℕ) (z : ℕ) → In z done ⊎ In z ys → In z (done_after done ys)
@@ -39,7 +40,7 @@ in-done done (y ∷ ys) z (inr (inl e)) = in-done (y ∷ done) ys z (inl (inl e)
 in-done done (y ∷ ys) z (inr (inr h)) = in-done (y ∷ done) ys z (inr h)
 
 -- what differs from each element of a list isn't in it
-pub none-twice : (y z : ℕ) (ys : List ℕ) → AllByRecursion (λ x. y ≡ x → ⊥) ys → y ≡ z → In z ys → ⊥
+none-twice : (y z : ℕ) (ys : List ℕ) → AllByRecursion (λ x. y ≡ x → ⊥) ys → y ≡ z → In z ys → ⊥
 none-twice y z ys h e m = each-in (λ x. y ≡ x → ⊥) ys z h m e
 
 module _ (g : Graph) (args : List ℕ) (accepted : IsAccepted g) (all : Partitions) (valid : are_valid g all ≡ true) (s : State) (sound : IsSoundState g args s)
@@ -72,7 +73,7 @@ module _ (g : Graph) (args : List ℕ) (accepted : IsAccepted g) (all : Partitio
       (λ z m. ⊎_elim (λ p. subst (λ n. n < length (block_of_act g s i b).vertices) p within.0) (λ p. places z p) m) order.1
 
   -- each place in order is of the class
-  pub order-inside : AllByRecursion (λ y. In y the_class) the_order
+  order-inside : AllByRecursion (λ y. In y the_class) the_order
   order-inside = order-each (λ y. In y the_class) (block_of_act g s i b).edges the_class (in-each (λ y. In y the_class) the_class (λ x m. m))
 
   -- so it is at the end of the run
@@ -81,13 +82,20 @@ module _ (g : Graph) (args : List ℕ) (accepted : IsAccepted g) (all : Partitio
       kept-each the_order [] (record { world = s.world; sends = [] })
       (record {
         on = onward-same s.world;
-        kept = kept-same g s.world (HasFired g all s) (FiredWith g args accepted all valid s sound state i b c run []) (WasSent s)
-            (SentWith g args accepted all valid s sound state i b c run (record { world = s.world; sends = [] })) (HasArrived s) (HasArrived s)
-            (λ j z h. inl h) (λ j z h. none j z h) (λ m h. inl h) (λ m h. h) state.kept;
+        tags = state.tags;
+        same = state.same ∙ sym (append-nil s.sent);
+        of_firings = all-more (IsOfFiring g s.world (HasFired g all s)) (IsOfFiring g s.world (FiredWith g args accepted all valid s sound state i b c run []))
+            (λ t h k. wish-same g s.world (HasFired g all s) (FiredWith g args accepted all valid s sound state i b c run []) (λ j z h. inl h)
+            t.0 t.1 t.2 (h k))
+            state.tags state.of_firings;
+        apart = state.apart;
+        kept = kept-same g s.world (HasFired g all s) (FiredWith g args accepted all valid s sound state i b c run []) (IsTagged state.tags)
+            (IsTagged state.tags) (HasArrived s) (HasArrived s) (λ j z h. inl h) (λ j z h. none j z h) (λ j z m h. h) (λ m h. h) state.kept;
       })
       (record { world = sound.world; grows = grows-same s.world; sends = tt })
       (order-ready g args accepted all s i b c valid sound run) order-inside
-      (order-each (λ y. y < length (block_of_act g s i b).vertices) (block_of_act g s i b).edges the_class (run-within g args accepted all s i b c valid sound run))
+      (order-each (λ y. y < length (block_of_act g s i b).vertices) (block_of_act g s i b).edges the_class
+      (run-within g args accepted all s i b c valid sound run))
       (order-distinct (block_of_act g s i b).edges acyclic the_class) (λ z h k. h) (λ z h. absurd h)
       (order-ordered (block_of_act g s i b).edges the_class acyclic)
     where
@@ -137,7 +145,7 @@ module _ (g : Graph) (args : List ℕ) (accepted : IsAccepted g) (all : Partitio
   ran-there j d e h = (sound.ran j d e h).0
 
   -- what has fired behind the run had fired, or is of its places
-  pub fired-with : (j z : ℕ) → HasFired g all after j z → FiredWith g args accepted all valid s sound state i b c run (done_after [] the_order) j z
+  fired-with : (j z : ℕ) → HasFired g all after j z → FiredWith g args accepted all valid s sound state i b c run (done_after [] the_order) j z
   fired-with j z h = go (ran-cases j h.block h.class h.ran)
     where
       old : has_run s j h.block h.class ≡ true → HasFired g all s j z
@@ -166,7 +174,8 @@ module _ (g : Graph) (args : List ℕ) (accepted : IsAccepted g) (all : Partitio
             sym p,
             (
               h.place,
-              in-done [] the_order h.place (inr (has-in the_order h.place (order-all (block_of_act g s i b).edges the_class h.place (in-has the_class h.place inside)))),
+              in-done [] the_order h.place
+                  (inr (has-in the_order h.place (order-all (block_of_act g s i b).edges the_class h.place (in-has the_class h.place inside)))),
               subst (λ m. (vertex_at (block_graph (its_code g s.world i) m) h.place).inlet ≡ false) (sym q)
                   (subst (λ m. (vertex_at (block_graph (code_of g m) h.block) h.place).inlet ≡ false) code h.no_inlet),
               subst (λ m. (vertex_at (block_graph (its_code g s.world i) m) h.place).node ≡ z) (sym q)
@@ -180,7 +189,7 @@ module _ (g : Graph) (args : List ℕ) (accepted : IsAccepted g) (all : Partitio
       go (inr k) = new k.0 k.1 k.2
 
   -- and the other way round
-  pub with-fired : (j z : ℕ) → FiredWith g args accepted all valid s sound state i b c run (done_after [] the_order) j z → HasFired g all after j z
+  with-fired : (j z : ℕ) → FiredWith g args accepted all valid s sound state i b c run (done_after [] the_order) j z → HasFired g all after j z
   with-fired j z (inl h) = record {
     there = run-onward.there j h.there;
     code = h.code;
@@ -210,17 +219,23 @@ module _ (g : Graph) (args : List ℕ) (accepted : IsAccepted g) (all : Partitio
     where
       place : In h.1.0 the_class × (h.1.0 < length (block_of_act g s i b).vertices)
       place = ⊎_elim (λ k. absurd k) (λ k. (
-          each-in (λ y. In y the_class) the_order h.1.0 order-inside k,
-          each-in (λ y. y < length (block_of_act g s i b).vertices) the_order h.1.0 (order-each (λ y. y < length (block_of_act g s i b).vertices)
-              (block_of_act g s i b).edges the_class (run-within g args accepted all s i b c valid sound run)) k,
-        )) (done-in [] the_order h.1.0 h.1.1)
+        each-in (λ y. In y the_class) the_order h.1.0 order-inside k,
+        each-in (λ y. y < length (block_of_act g s i b).vertices) the_order h.1.0 (order-each (λ y. y < length (block_of_act g s i b).vertices)
+            (block_of_act g s i b).edges the_class (run-within g args accepted all s i b c valid sound run)) k,
+      )) (done-in [] the_order h.1.0 h.1.1)
 
   -- the state behind the run keeps what the state kept
   pub kept-run : IsKeptState g all after
   kept-run = record {
+    tags = kept-all.tags;
+    same = kept-all.same;
+    of_firings = all-more (IsOfFiring g after.world (FiredWith g args accepted all valid s sound state i b c run (done_after [] the_order)))
+        (IsOfFiring g after.world (HasFired g all after))
+        (λ t h k. wish-same g after.world (FiredWith g args accepted all valid s sound state i b c run (done_after [] the_order)) (HasFired g all after)
+        with-fired t.0 t.1 t.2 (h k)) kept-all.tags kept-all.of_firings;
+    apart = kept-all.apart;
     kept = kept-same g after.world (FiredWith g args accepted all valid s sound state i b c run (done_after [] the_order)) (HasFired g all after)
-        (SentWith g args accepted all valid s sound state i b c run (class_fired g all s i b c)) (WasSent after) (HasArrived s) (HasArrived after)
-        with-fired fired-with sent arrived kept-all.kept;
+        (IsTagged kept-all.tags) (IsTagged kept-all.tags) (HasArrived s) (HasArrived after) with-fired fired-with (λ j z m h. h) arrived kept-all.kept;
     inlets = λ j d e y h. ⊎_elim (λ k. old-inlet j d e y k) (λ k. new-inlet j d e y k.0 k.1 k.2) (ran-cases j d e h);
     classes = λ j d e h. ⊎_elim (λ k. subst (λ n. e < length (parts_of all n d)) (sym (run-onward.code j (ran-there j d e k))) (state.classes j d e k))
         (λ k. new-class j d e k.0 k.1 k.2) (ran-cases j d e h);
@@ -229,22 +244,18 @@ module _ (g : Graph) (args : List ℕ) (accepted : IsAccepted g) (all : Partitio
       still : (n : ℕ) (m : Message) → slice_get s.sent n ≡ Some m → slice_get (s.sent ++ (class_fired g all s i b c).sends) n ≡ Some m
       still n m h = get-left s.sent (class_fired g all s i b c).sends n (some-below s.sent n h) ∙ h
 
-      sent : (m : Message) → WasSent s m ⊎ In m (class_fired g all s i b c).sends → WasSent after m
-      sent m (inl h) = (h.0, still h.0 m h.1)
-      sent m (inr h) = in-get m (s.sent ++ (class_fired g all s i b c).sends) (right-in m s.sent (class_fired g all s i b c).sends h)
-
       arrived : (m : Message) → HasArrived s m → HasArrived after m
       arrived m h = (h.0, still h.0 m h.1, h.2)
 
-      old-inlet : (j d e y : ℕ) → has_run s j d e ≡ true → In y (class_at (parts_of_act g all after j d) e) → (vertex_at (block_of_act g after j d) y).inlet ≡ true
-          → HasSome after j (vertex_at (block_of_act g after j d) y).node
+      old-inlet : (j d e y : ℕ) → has_run s j d e ≡ true → In y (class_at (parts_of_act g all after j d) e)
+          → (vertex_at (block_of_act g after j d) y).inlet ≡ true → HasSome after j (vertex_at (block_of_act g after j d) y).node
       old-inlet j d e y k = subst (λ n. In y (class_at (parts_of all n d) e) → (vertex_at (block_graph (code_of g n) d) y).inlet ≡ true
           → HasSome after j (vertex_at (block_graph (code_of g n) d) y).node) (sym (run-onward.code j (ran-there j d e k)))
           (λ m t. let h = state.inlets j d e y k m t in (h.0, run-onward.words j (vertex_at (block_of_act g s j d) y).node h.0 h.1))
 
       now-inlet : (y : ℕ) → In y (class_at (parts_of_act g all s i b) c) → (vertex_at (block_of_act g s i b) y).inlet ≡ true
           → HasSome after i (vertex_at (block_of_act g s i b) y).node
-      now-inlet y m t = word (rw t at (all-in (λ x. elim (vertex_at (block_of_act g s i b) x).inlet [ true ↦ has_word s.world i (vertex_at (block_of_act g s i b) x).node | false ↦ true ]) the_class run.inlets y m))
+      now-inlet y m t = word (rw t at (all-in _ the_class run.inlets y m))
         where
           word : has_word s.world i (vertex_at (block_of_act g s i b) y).node ≡ true → HasSome after i (vertex_at (block_of_act g s i b) y).node
           word h =

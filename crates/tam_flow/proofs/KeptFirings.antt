@@ -1,5 +1,5 @@
 -- A node that fires for the first time, in an open block and with words of its operands, gives words to nodes that have none, and the world keeps what it kept.
-use Rattle.std.proofs.Common.{◌≡◌, ℕ, zero, suc, ◌<◌, Bool, true, false, ◌==◌, List, [], ◌∷◌, Some, None, length, slice_get, refl, sym, ap, ◌∙◌, subst}
+use Rattle.std.proofs.Common.{◌≡◌, ℕ, ◌<◌, true, List, [], ◌∷◌, Some, None, length, slice_get, refl, sym, ap, ◌∙◌, subst}
 use Rattle.std.proofs.Common.{inl, inr, ◌⊎◌, ⊎_elim, true≢false}
 use Rattle.tam_msgs.specs.declared.message.Message.{Message}
 use Rattle.tam_graph.specs.declared.kind.Kind.{Kind}
@@ -18,9 +18,10 @@ use Rattle.tam_flow.proofs.Nodes.{line, cond-operand}
 use Rattle.tam_flow.proofs.FiringReasons.{HaveThese}
 use Rattle.tam_flow.proofs.BranchOwners.{body-owner, chosen-owner, switch-one, leave-one}
 use Rattle.tam_flow.proofs.Gifts.{gift, opens, Leaves, leaves-firing}
-use Rattle.tam_flow.proofs.Givers.{is_received, GivenTo, Itself, Inwards, Outwards, given-to, given-no_message, IsChosen, opens-chosen}
+use Rattle.tam_flow.proofs.Givers.{is_received, GivenTo, Itself, Inwards, Outwards, given-to, given-no_message, opens-chosen}
 use Rattle.tam_flow.proofs.Onward.{Onward, word-one, have-later, fires-with}
-use Rattle.tam_flow.proofs.Kept.{IsGift, IsEntered, HasDone, IsKept, CallersThere, gift-later, entered-later, received-later, open-later, sends-later, done-later}
+use Rattle.tam_flow.proofs.Kept.{IsGift, IsEntered, HasDone, IsKept, IsWish, CallersThere, gift-later, entered-later, received-later, open-later, sends-later}
+use Rattle.tam_flow.proofs.Kept.{done-later}
 use Rattle.tam_flow.proofs.Kept.{word-act}
 
 -- what the owner of a block is
@@ -41,7 +42,8 @@ pub record HasChosen (g : Graph) (w : World) (i d b : ℕ) : Type 0 where
   pub has : word_of w i test ≡ word ∷ []
   pub block : b ≡ chosen_branch (its_code g w i) d word
 
-module _ (g : Graph) (accepted : IsAccepted g) (w : World) (F : ℕ → ℕ → Type 0) (S A : Message → Type 0) (kept : IsKept g w F S A) (i : ℕ)
+module _ (g : Graph) (accepted : IsAccepted g) (w : World) (F : ℕ → ℕ → Type 0) (S : ℕ → ℕ → Message → Type 0) (A : Message → Type 0)
+    (kept : IsKept g w F S A) (i : ℕ)
     (there : IsThere w i) (code : (activation_at w i).code < length g.codes) where
   -- a branch that is entered is the one that its cond's word chose
   has-chosen : (d b : ℕ) → has_entered w i b ≡ true → slice_get (its_code g w i).owners b ≡ Some (Some d) → HasChosen g w i d b
@@ -165,8 +167,8 @@ module _ (g : Graph) (accepted : IsAccepted g) (w : World) (F : ℕ → ℕ → 
       AndThis j z = F j z ⊎ ((j ≡ i) × (z ≡ x))
 
       -- what was sent before, and by this firing
-      abbrev pub AndSent : Effect → Message → Type 0
-      AndSent e m = S m ⊎ In m e.sends
+      abbrev pub AndSent : Effect → ℕ → ℕ → Message → Type 0
+      AndSent e j z m = S j z m ⊎ ((j ≡ i) × (z ≡ x) × In m e.sends)
 
       module _ (e : Effect) (fires : e ≡ firing_of g w i x (kind_of g w i x) vs) where
         -- what the firing leaves
@@ -191,12 +193,16 @@ module _ (g : Graph) (accepted : IsAccepted g) (w : World) (F : ℕ → ℕ → 
             (have-later w e.world on-firing i (operands_of (its_code g w i) (kind_of g w i x)) vs have)
 
         -- the node has done what it does
-        this-done : HasDone g e.world (AndSent e) i x
+        this-done : HasDone g e.world (AndSent e i x) i x
         this-done = record {
           words = vs;
           have = this-have;
-          sent = λ m a. inr (subst (λ (f : Effect). In m f.sends) (sym fires)
-              (subst (λ l. In m l) (sends-later g w e.world on-firing callers i x vs there) a));
+          sent = λ m a. inr (
+            refl,
+            refl,
+            subst (λ (f : Effect). In m f.sends) (sym fires)
+                (subst (λ l. In m l) (sends-later g w e.world on-firing callers i x vs there) a),
+          );
           gave = subst (λ n. (y : ℕ) → In y (gift (code_of g n) x (kind_at (code_of g n) x) vs).0
               → word_of e.world i y ≡ (gift (code_of g n) x (kind_at (code_of g n) x) vs).1 ∷ []) (sym same) (λ y a. leaves.given y there a);
           entered = subst (λ n. (b : ℕ) → In b (opens (code_of g n) x (kind_at (code_of g n) x) vs) → has_entered e.world i b ≡ true) (sym same)
@@ -207,8 +213,8 @@ module _ (g : Graph) (accepted : IsAccepted g) (w : World) (F : ℕ → ℕ → 
             same = leaves.frames.code i
 
         -- a word that it gives is its gift
-        this-gift : (y u : ℕ) → In y (gift (its_code g w i) x (kind_of g w i x) vs).0 → word_of e.world i y ≡ (gift (its_code g w i) x (kind_of g w i x) vs).1 ∷ []
-            → word_of e.world i y ≡ u ∷ [] → IsGift g e.world AndThis i y u
+        this-gift : (y u : ℕ) → In y (gift (its_code g w i) x (kind_of g w i x) vs).0
+            → word_of e.world i y ≡ (gift (its_code g w i) x (kind_of g w i x) vs).1 ∷ [] → word_of e.world i y ≡ u ∷ [] → IsGift g e.world AndThis i y u
         this-gift y u a k h = record {
           node = x;
           words = vs;
@@ -228,13 +234,22 @@ module _ (g : Graph) (accepted : IsAccepted g) (w : World) (F : ℕ → ℕ → 
           among = subst (λ n. In b (opens (code_of g n) x (kind_at (code_of g n) x) vs)) (sym (leaves.frames.code i)) a;
         }
 
+        -- what it sends is its wish
+        this-wish : (m : Message) → In m e.sends → IsWish g e.world AndThis m i x
+        this-wish m a = record {
+          words = vs;
+          fired = inr (refl, refl);
+          have = this-have;
+          among = subst (λ l. In m l) (sym (sends-later g w e.world on-firing callers i x vs there)) (subst (λ (f : Effect). In m f.sends) fires a);
+        }
+
         -- so the world keeps what it kept
         keeps-firing : IsKept g e.world AndThis (AndSent e) A
         keeps-firing = record {
           there = λ j z h. ⊎_elim (λ k. on-firing.there j (kept.there j z k)) (λ k. on-firing.there j (subst (λ l. IsThere w l) (sym k.0) there)) h;
           open_block = λ j z h. ⊎_elim (λ k. open-later g w e.world on-firing j z (kept.there j z k) (kept.open_block j z k)) (λ k. this-open j z k.0 k.1) h;
-          done = λ j z h. ⊎_elim (λ k. done-later g w e.world on-firing callers S (AndSent e) (λ m a. inl a) j z (kept.there j z k) (kept.done j z k))
-              (λ k. subst (λ l. HasDone g e.world (AndSent e) l z) (sym k.0) (subst (λ l. HasDone g e.world (AndSent e) i l) (sym k.1) this-done)) h;
+          done = λ j z h. ⊎_elim (λ k. done-later g w e.world on-firing callers (S j z) (AndSent e j z) (λ m a. inl a) j z (kept.there j z k) (kept.done j z k))
+              (λ k. subst (λ l. HasDone g e.world (AndSent e l z) l z) (sym k.0) (subst (λ l. HasDone g e.world (AndSent e i l) i l) (sym k.1) this-done)) h;
           sources = λ j y u h. ⊎_elim (λ k. old_word j y u (sym k ∙ h)) (λ k. inl (subst (λ l. IsGift g e.world AndThis l y u) (sym k.0)
               (new_word j y u k.0 k.1 k.2 h))) (leaves.words j y);
           blocks = λ j b t h. ⊎_elim (λ k. old_block j b (subst (λ n. j < n) leaves.frames.as_many t) k)
@@ -266,3 +281,7 @@ module _ (g : Graph) (accepted : IsAccepted g) (w : World) (F : ℕ → ℕ → 
       -- and what the world kept
       pub fired-keeps : IsKept g (fired g w i x).world AndThis (AndSent (fired g w i x)) A
       fired-keeps = keeps-firing (fired g w i x) (fires-with g w i x vs have)
+
+      -- each message that it sends is its wish
+      pub fired-wishes : (m : Message) → In m (fired g w i x).sends → IsWish g (fired g w i x).world AndThis m i x
+      fired-wishes = this-wish (fired g w i x) (fires-with g w i x vs have)

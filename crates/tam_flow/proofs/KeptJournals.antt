@@ -1,6 +1,6 @@
 -- Behind each legal journal in which each node is sent one word at most, the state keeps firings, messages and words.
-use Rattle.std.proofs.Common.{◌≡◌, ℕ, zero, suc, ◌^◌, ◌<◌, Bool, true, false, ◌==◌, not, List, [], ◌∷◌, ◌++◌, map, zip, Option, Some, None, is_none, length}
-use Rattle.std.proofs.Common.{nat_lt, slice_get, refl, sym, ap, ◌∙◌, arith, subst, inl, inr, true≢false}
+use Rattle.std.proofs.Common.{◌≡◌, ℕ, zero, suc, ◌^◌, ◌<◌, Bool, true, false, not, List, [], ◌∷◌, zip, Option, Some, None, is_none, length}
+use Rattle.std.proofs.Common.{nat_lt, slice_get, refl, sym, ap, ◌∙◌, arith, inl, inr, true≢false}
 use Rattle.std.specs.List.{AllByRecursion}
 use Rattle.tam_word.specs.Lists.{below, has}
 use Rattle.tam_msgs.specs.declared.message.Message.{Message}
@@ -8,24 +8,25 @@ use Rattle.tam_msgs.specs.declared.message.Message.TheVariants.{Word as Carry}
 use Rattle.tam_graph.specs.Graphs.{Graph, code_of, kind_at, node_where, is_param}
 use Rattle.tam_graph.specs.Accepted.{IsAccepted}
 use Rattle.tam_split.specs.GraphPartitions.{Partitions, are_valid}
-use Rattle.tam_word.proofs.Tests.{and-left, and-right, not-true}
+use Rattle.tam_word.proofs.Tests.{and-right, not-true}
 use Rattle.tam_word.proofs.Each.{all-append, all-at_place, all-flat, all-map, all-more}
-use Rattle.tam_flow.specs.Worlds.{World, Delivery, Went, Printed, Faulted, delivered, opening, argument_message, word_of, has_entered}
-use Rattle.tam_flow.specs.Journals.{State, Event, Run, Deliver, initial, class_fired, block_of_act, parts_of_act, or_message, after_delivery, deliver_all}
+use Rattle.tam_flow.specs.Worlds.{Delivery, Went, Printed, Faulted, delivered, opening, argument_message, word_of, has_entered}
+use Rattle.tam_flow.specs.Journals.{State, Event, Run, Deliver, initial, class_fired, block_of_act, or_message, after_delivery, deliver_all}
 use Rattle.tam_flow.specs.Journals.{after_event, may_run, may_arrive, may_follow, is_legal_from, state_from, state_after}
 use Rattle.tam_flow.specs.JournalLaws.{IsJournal}
-use Rattle.tam_flow.specs.Reached.{IsThere, WasSent, HasArrived}
+use Rattle.tam_flow.specs.Reached.{IsThere}
 use Rattle.tam_flow.proofs.ActivationCounts.{size-from}
 use Rattle.tam_flow.proofs.ActivationLists.{entered-first}
-use Rattle.tam_flow.proofs.Deliveries.{IsSoundEffect, IsSoundDelivery, deliver}
+use Rattle.tam_flow.proofs.Deliveries.{IsSoundDelivery, deliver}
 use Rattle.tam_flow.proofs.Growing.{grows-same}
 use Rattle.tam_flow.proofs.Justified.{IsMessage}
 use Rattle.tam_flow.proofs.Nodes.{where-each, is-param}
 use Rattle.tam_flow.proofs.Sending.{sent-from}
-use Rattle.tam_flow.proofs.SentOnce.{HasFired}
+use Rattle.tam_flow.proofs.SentOnce.{HasFired, asked-words, initial-words}
+use Rattle.tam_flow.proofs.Senders.{asks, tagged_with, tagged-same, words-apart}
 use Rattle.tam_flow.proofs.SoundStates.{IsSoundState, IsRunnable, runnable, run_order, run-effect, order-ready, opened, sound-event, sound-initial}
 use Rattle.tam_flow.proofs.Givers.{is_received}
-use Rattle.tam_flow.proofs.KeptRuns.{IsKeptState}
+use Rattle.tam_flow.proofs.KeptRuns.{IsOfFiring, IsKeptState}
 use Rattle.tam_flow.proofs.KeptEvents.{kept-run}
 use Rattle.tam_flow.proofs.Receivers.{IsForReceiver, SendsToReceivers, receivers-later, receivers-each, delivered-receivers}
 use Rattle.tam_flow.proofs.KeptDeliveries.{OneWordSent, kept-delivery}
@@ -56,8 +57,13 @@ module _ (g : Graph) (args : List ℕ) (accepted : IsAccepted g) (all : Partitio
       each (e ∷ es) = (one e.0 e.1, each es)
 
   -- nothing has fired yet, and no node has a word
-  pub kept-initial : IsKeptState g all (initial g args)
+  kept-initial : IsKeptState g all (initial g args)
   kept-initial = record {
+    tags = tagged_with 0 0 (initial g args).sent;
+    same = tagged-same 0 0 (initial g args).sent;
+    of_firings = all-more (λ t. asks t.0 ≡ false) (IsOfFiring g (opening g) (HasFired g all (initial g args))) (λ t k d. absurd (true≢false (sym d ∙ k)))
+        (tagged_with 0 0 (initial g args).sent) (asked-words 0 0 (initial g args).sent words);
+    apart = words-apart 0 0 (initial g args).sent words;
     kept = record {
       there = λ i x h. absurd (true≢false (sym h.ran));
       open_block = λ i x h. absurd (true≢false (sym h.ran));
@@ -69,6 +75,9 @@ module _ (g : Graph) (args : List ℕ) (accepted : IsAccepted g) (all : Partitio
     classes = λ i b c h. absurd (true≢false (sym h));
   }
     where
+      words : AllByRecursion (λ m. asks m ≡ false) (initial g args).sent
+      words = initial-words g args accepted all
+
       nil-cons : {u : ℕ} → [] ≡ u ∷ [] → ⊥
       nil-cons e = cc
 
@@ -152,8 +161,8 @@ module _ (g : Graph) (args : List ℕ) (accepted : IsAccepted g) (all : Partitio
       go false k ih = absurd (true≢false (sym (rw (is_legal_from, k) at legal)))
 
 -- so does the state behind a journal
-pub kept-journal : (g : Graph) (all : Partitions) (args : List ℕ) (events : List Event) → IsJournal g all args events → OneWordSent (state_after g all args events)
-    → IsKeptState g all (state_after g all args events)
+pub kept-journal : (g : Graph) (all : Partitions) (args : List ℕ) (events : List Event) → IsJournal g all args events
+    → OneWordSent (state_after g all args events) → IsKeptState g all (state_after g all args events)
 kept-journal g all args events journal once =
     (kept-from g args journal.accepted all journal.valid (initial g args) events journal.few_activations (sound-initial g args journal.accepted)
     (receivers-initial g args journal.accepted all) (kept-initial g args journal.accepted all) once journal.legal).0

@@ -1,47 +1,58 @@
 -- When a class runs each of its vertices that fires has words of its operands, and fires for the first time; so the world keeps what it kept.
-use Rattle.std.proofs.Common.{◌≡◌, ℕ, ◌<◌, Bool, true, false, ◌==◌, ◌&&◌, not, List, [], ◌∷◌, ◌++◌, length, map, slice_get, refl, sym, ap, ◌∙◌, subst}
-use Rattle.std.proofs.Common.{inl, inr, ◌⊎◌, ⊎_elim, true≢false}
+use Rattle.std.proofs.Common.{◌≡◌, ℕ, ◌<◌, Bool, true, false, ◌==◌, ◌&&◌, not, List, [], ◌∷◌, ◌++◌, length, map, refl, sym, ap, ap₂, ◌∙◌, subst}
+use Rattle.std.proofs.Common.{inl, inr, ◌⊎◌, true≢false}
 use Rattle.std.specs.List.{AllByRecursion}
-use Rattle.tam_word.specs.Lists.{all_of, below}
+use Rattle.tam_word.specs.Lists.{below}
 use Rattle.tam_msgs.specs.declared.message.Message.{Message}
-use Rattle.tam_graph.specs.declared.kind.Kind.{Kind}
-use Rattle.tam_graph.specs.Graphs.{Graph, Code, code_of, kind_at, block_at, operands_of, node_numbers, is_inlet, has_value}
+use Rattle.tam_graph.specs.Graphs.{Graph, Code, code_of, kind_at, block_at, operands_of, is_inlet, has_value}
 use Rattle.tam_graph.specs.Accepted.{IsAccepted}
 use Rattle.tam_graph.proofs.Walks.{is_edge}
-use Rattle.tam_split.specs.Blocks.{BlockGraph, block_graph, vertex_at, or_vertex, vertices_in, edges_among}
+use Rattle.tam_split.specs.Blocks.{BlockGraph, block_graph, vertex_at, or_vertex, vertices_in}
 use Rattle.tam_split.specs.Partitions.{Parts, class_at, class_of, class_edges, directly_before}
-use Rattle.tam_split.specs.GraphPartitions.{Partitions, parts_of, are_valid, firing_order}
+use Rattle.tam_split.specs.GraphPartitions.{Partitions, parts_of, are_valid}
 use Rattle.tam_split.proofs.BlockGraphs.{in-is_edge}
 use Rattle.tam_split.proofs.BlockVertices.{place-at}
-use Rattle.tam_split.proofs.Firers.{Firer, Giver, giver-at, giver-inlet, operand-edge, value-inner, is_inner}
+use Rattle.tam_split.proofs.Firers.{Giver, giver-at, giver-inlet, operand-edge, value-inner, is_inner}
 use Rattle.tam_split.proofs.LeastClasses.{IsValidAt, valid-at, class-below, class-only}
 use Rattle.std.proofs.lemmas.Option.{slice_get_within}
+use Rattle.std.proofs.lemmas.List.{append_assoc}
 use Rattle.tam_word.proofs.Tests.{number-eq, self-eq, true-both}
 use Rattle.tam_word.proofs.Members.{In, in-any, all-in, in-has, map-in, filter-in, below-in, left-in, right-in}
-use Rattle.tam_word.proofs.Each.{each-in}
+use Rattle.tam_word.proofs.Each.{all-more, all-append, all-map, in-each}
 use Rattle.tam_flow.specs.Worlds.{World, Effect, activation_at, its_code, word_of, has_word, has_entered, fired}
-use Rattle.tam_flow.specs.Journals.{State, Event, Run, fire_each, class_fired, has_run, block_of_act, parts_of_act, inlets_have_words, those_before_ran}
-use Rattle.tam_flow.specs.Journals.{after_event}
-use Rattle.tam_flow.specs.Reached.{IsThere, kind_of, WasSent, HasArrived, HasSome}
+use Rattle.tam_flow.specs.Journals.{State, has_run, block_of_act, parts_of_act}
+use Rattle.tam_flow.specs.Reached.{kind_of, HasArrived, HasSome}
 use Rattle.tam_flow.proofs.ActivationCounts.{then_one}
 use Rattle.tam_flow.proofs.ActivationLists.{has-word}
 use Rattle.tam_flow.proofs.ClassRuns.{vertex-each}
-use Rattle.tam_flow.proofs.Pairs.{NoTwice, fires-once}
-use Rattle.tam_flow.proofs.SoundStates.{IsSoundState, IsRunnable, run-block, run-within}
+use Rattle.tam_flow.proofs.Pairs.{Pairs, pairs-append, fires-once}
+use Rattle.tam_flow.proofs.SoundStates.{IsSoundState, IsRunnable, run-block}
 use Rattle.tam_flow.proofs.Running.{in-own_class}
 use Rattle.tam_flow.proofs.SentOnce.{HasFired, one-class}
-use Rattle.tam_flow.proofs.FiringOrder.{IsOrdered}
-use Rattle.tam_flow.proofs.Operands.{HasValue, operand-taken}
-use Rattle.tam_flow.proofs.FiringReasons.{HaveThese}
+use Rattle.tam_flow.proofs.Operands.{operand-taken}
 use Rattle.tam_flow.proofs.Gifts.{gift}
 use Rattle.tam_flow.proofs.Givers.{inner-gives}
 use Rattle.tam_flow.proofs.Onward.{Onward, onward-on, have-all}
-use Rattle.tam_flow.proofs.Kept.{HasDone, IsKept, CallersThere, kept-same}
-use Rattle.tam_flow.proofs.KeptFirings.{fired-onward, fired-keeps}
+use Rattle.tam_flow.proofs.Kept.{HasDone, IsKept, IsWish, CallersThere, kept-same, wish-same, wish-later}
+use Rattle.tam_flow.proofs.KeptFirings.{fired-onward, fired-keeps, fired-wishes}
+use Rattle.tam_flow.proofs.Senders.{Tag, TagApart, asks, tagged_with, tagged-same, map-append}
+use Rattle.tam_flow.proofs.WishesApart.{fired-apart}
 
--- a world keeps firings and messages of the state, an inlet of a class that ran has a word, and such a class is there
+-- the message with this tag is among those sent
+abbrev pub IsTagged : List Tag → ℕ → ℕ → Message → Type 0
+IsTagged tags i x m = In {X = Tag} (m, i, x) tags
+
+-- a wish with a tag was sent by a node that fired
+abbrev pub IsOfFiring : Graph → World → (ℕ → ℕ → Type 0) → Tag → Type 0
+IsOfFiring g w F t = asks t.0 ≡ true → IsWish g w F t.0 t.1 t.2
+
+-- each message has its sender, each wish one of its own; the world keeps firings and messages; what ran is there, and its inlets have words
 pub record IsKeptState (g : Graph) (all : Partitions) (s : State) : Type 0 where
-  pub kept : IsKept g s.world (HasFired g all s) (WasSent s) (HasArrived s)
+  pub tags : List Tag
+  pub same : map (λ t. t.0) tags ≡ s.sent
+  pub of_firings : AllByRecursion (IsOfFiring g s.world (HasFired g all s)) tags
+  pub apart : Pairs TagApart tags
+  pub kept : IsKept g s.world (HasFired g all s) (IsTagged tags) (HasArrived s)
   pub inlets : (i b c y : ℕ) → has_run s i b c ≡ true → In y (class_at (parts_of_act g all s i b) c) → (vertex_at (block_of_act g s i b) y).inlet ≡ true
       → HasSome s i (vertex_at (block_of_act g s i b) y).node
   pub classes : (i b c : ℕ) → has_run s i b c ≡ true → c < length (parts_of_act g all s i b)
@@ -79,17 +90,17 @@ module _ (g : Graph) (args : List ℕ) (accepted : IsAccepted g) (all : Partitio
   FiredWith done j z =
       HasFired g all s j z ⊎ ((j ≡ i) × ((y : ℕ) × In y done × ((vertex_at the_block y).inlet ≡ false) × ((vertex_at the_block y).node ≡ z)))
 
-  -- what was sent before, and by the run
-  abbrev pub SentWith : Effect → Message → Type 0
-  SentWith e m = WasSent s m ⊎ In m e.sends
-
-  -- the run so far keeps words, and what the state keeps
+  -- the run so far keeps words, and what the state keeps; the messages of the state and of the run have their senders
   pub record IsKeptRun (done : List ℕ) (e : Effect) : Type 0 where
     pub on : Onward s.world e.world
-    pub kept : IsKept g e.world (FiredWith done) (SentWith e) (HasArrived s)
+    pub tags : List Tag
+    pub same : map (λ t. t.0) tags ≡ s.sent ++ e.sends
+    pub of_firings : AllByRecursion (IsOfFiring g e.world (FiredWith done)) tags
+    pub apart : Pairs TagApart tags
+    pub kept : IsKept g e.world (FiredWith done) (IsTagged tags) (HasArrived s)
 
   -- the code's number
-  pub code-there : (activation_at s.world i).code < length g.codes
+  code-there : (activation_at s.world i).code < length g.codes
   code-there = sound.world.codes i run.there
 
   -- the partition of the block is valid
@@ -102,7 +113,7 @@ module _ (g : Graph) (args : List ℕ) (accepted : IsAccepted g) (all : Partitio
         → (u : ℕ) × (word_of e.world i a ≡ u ∷ [])
     inner-has a fired value none = has (so_far.kept.done i a fired)
       where
-        has : HasDone g e.world (SentWith e) i a → (u : ℕ) × (word_of e.world i a ≡ u ∷ [])
+        has : HasDone g e.world (IsTagged so_far.tags i a) i a → (u : ℕ) × (word_of e.world i a ≡ u ∷ [])
         has h = (
           (gift (its_code g e.world i) a (kind_of g e.world i a) h.words).1,
           h.gave a (inner-gives (its_code g e.world i) a (kind_of g e.world i a) e.world i h.words
@@ -116,11 +127,12 @@ module _ (g : Graph) (args : List ℕ) (accepted : IsAccepted g) (all : Partitio
       the_node = (vertex_at the_block y).node
 
       -- it stands in the block
-      pub node-in_block : (the_node < length the_code.nodes) × (block_at the_code the_node ≡ b)
+      node-in_block : (the_node < length the_code.nodes) × (block_at the_code the_node ≡ b)
       node-in_block = vertex-each the_code b y within
 
       -- the place of an operand's value: it is done or its class has run, so the operand has a word
-      giver-has : (a d : ℕ) → has_value (kind_at the_code a) ≡ true → Giver the_code b d a → In (d, y) the_block.edges → (u : ℕ) × (word_of e.world i a ≡ u ∷ [])
+      giver-has : (a d : ℕ) → has_value (kind_at the_code a) ≡ true → Giver the_code b d a → In (d, y) the_block.edges
+          → (u : ℕ) × (word_of e.world i a ≡ u ∷ [])
       giver-has a d value giver edge = go (class_of the_parts d == c) refl (is_inlet (kind_at the_code a)) refl
         where
           place : d < length the_block.vertices
@@ -142,12 +154,14 @@ module _ (g : Graph) (args : List ℕ) (accepted : IsAccepted g) (all : Partitio
           later h = (h.0, so_far.on.words i a h.0 (subst (λ z. word_of s.world i z ≡ h.0 ∷ []) its-node h.1))
 
           inlet-now : In d the_class → (vertex_at the_block d).inlet ≡ true → has_word s.world i (vertex_at the_block d).node ≡ true
-          inlet-now m t = let h = all-in (λ x. elim (vertex_at the_block x).inlet [ true ↦ has_word s.world i (vertex_at the_block x).node | false ↦ true ]) the_class run.inlets d m in rw t at h
+          inlet-now m t = let h = all-in _ the_class run.inlets d m in rw t at h
 
           ran : (class_of the_parts d == c) ≡ false → has_run s i b (class_of the_parts d) ≡ true
           ran differ =
-              let h = all-in (λ k. elim (directly_before the_block.edges the_parts k c) [ true ↦ has_run s i b k | false ↦ true ]) (below (length the_parts)) run.before (class_of the_parts d) (below-in (class_of the_parts d) (length the_parts) (class-below the_parts d (parts-valid.once d place))) in
-              rw (directly-before the_block.edges the_parts d y c edge (class-only the_parts c y (parts-valid.once y within) (in-has the_class y inside)) differ) at h
+              let own_class = class-only the_parts c y (parts-valid.once y within) (in-has the_class y inside) in
+              let h = all-in _ (below (length the_parts)) run.before (class_of the_parts d)
+              (below-in (class_of the_parts d) (length the_parts) (class-below the_parts d (parts-valid.once d place))) in
+              rw (directly-before the_block.edges the_parts d y c edge own_class differ) at h
 
           go : (t : Bool) → (class_of the_parts d == c) ≡ t → (k : Bool) → is_inlet (kind_at the_code a) ≡ k → (u : ℕ) × (word_of e.world i a ≡ u ∷ [])
           go true p true q =
@@ -158,21 +172,21 @@ module _ (g : Graph) (args : List ℕ) (accepted : IsAccepted g) (all : Partitio
               inner-has a (inr (refl, (d, before d m (in-is_edge the_block.edges d y edge), its-inlet ∙ q, its-node))) value q
           go false p true q = later (state.inlets i b (class_of the_parts d) d (ran p) own (its-inlet ∙ q))
           go false p false q = inner-has a (inl (record {
-              there = run.there;
-              code = (activation_at s.world i).code;
-              block = b;
-              class = class_of the_parts d;
-              place = d;
-              is_code = refl;
-              ran = ran p;
-              inside = own;
-              within = place;
-              no_inlet = its-inlet ∙ q;
-              node = its-node;
-            })) value q
+            there = run.there;
+            code = (activation_at s.world i).code;
+            block = b;
+            class = class_of the_parts d;
+            place = d;
+            is_code = refl;
+            ran = ran p;
+            inside = own;
+            within = place;
+            no_inlet = its-inlet ∙ q;
+            node = its-node;
+          })) value q
 
       -- so each operand of a place that fires has a word
-      pub operand-has : (vertex_at the_block y).inlet ≡ false → (a : ℕ) → In a (operands_of the_code (kind_at the_code the_node))
+      operand-has : (vertex_at the_block y).inlet ≡ false → (a : ℕ) → In a (operands_of the_code (kind_at the_code the_node))
           → (u : ℕ) × (word_of e.world i a ≡ u ∷ [])
       operand-has none a m =
           let taken = operand-taken g accepted (activation_at s.world i).code code-there the_node a (kind_at the_code the_node) node-in_block.0 refl m in
@@ -183,7 +197,7 @@ module _ (g : Graph) (args : List ℕ) (accepted : IsAccepted g) (all : Partitio
           (record { vertex = vertex_at the_block y; stands = place-at the_code b y within; of_node = refl; no_inlet = none }) here m)
 
       -- and the place fires for the first time
-      pub fires-first : (In y done → ⊥) → (vertex_at the_block y).inlet ≡ false → ((z : ℕ) → In z done → z < length the_block.vertices)
+      fires-first : (In y done → ⊥) → (vertex_at the_block y).inlet ≡ false → ((z : ℕ) → In z done → z < length the_block.vertices)
           → FiredWith done i the_node → ⊥
       fires-first fresh none places (inl f) =
           let both = one-class g args accepted all valid (activation_at s.world i).code b c f.block f.class f.place y code-there
@@ -220,17 +234,25 @@ module _ (g : Graph) (args : List ℕ) (accepted : IsAccepted g) (all : Partitio
           still j z (inl f) = inl f
           still j z (inr (q, (x, m, k, h))) = inr (q, (x, inr m, k, h))
 
-          sent : (m : Message) → SentWith e m ⊎ In m (fired g e.world i the_node).sends
-              → WasSent s m ⊎ In m (e.sends ++ (fired g e.world i the_node).sends)
-          sent m (inl (inl h)) = inl h
-          sent m (inl (inr h)) = inr (left-in m e.sends (fired g e.world i the_node).sends h)
-          sent m (inr h) = inr (right-in m e.sends (fired g e.world i the_node).sends h)
+          sent : (j z : ℕ) (m : Message) → IsTagged so_far.tags j z m ⊎ ((j ≡ i) × (z ≡ the_node) × In m (fired g e.world i the_node).sends)
+              → IsTagged (so_far.tags ++ tagged_with i the_node (fired g e.world i the_node).sends) j z m
+          sent j z m (inl h) = left-in {X = Tag} (m, j, z) so_far.tags (tagged_with i the_node (fired g e.world i the_node).sends) h
+          sent j z m (inr (p, q, h)) =
+              subst (λ l. IsTagged (so_far.tags ++ tagged_with i the_node (fired g e.world i the_node).sends) l z m) (sym p)
+              (subst (λ l. IsTagged (so_far.tags ++ tagged_with i the_node (fired g e.world i the_node).sends) i l m) (sym q)
+              (right-in {X = Tag} (m, i, the_node) so_far.tags (tagged_with i the_node (fired g e.world i the_node).sends)
+              (map-in (λ (o : Message). (o, i, the_node)) m (fired g e.world i the_node).sends h)))
 
           go : (t : Bool) → (vertex_at the_block y).inlet ≡ t → IsKeptRun (y ∷ done) (then_one g the_block i e y)
           go true d = rw (then_one, d) (record {
             on = so_far.on;
-            kept = kept-same g e.world (FiredWith done) (FiredWith (y ∷ done)) (SentWith e) (SentWith e) (HasArrived s) (HasArrived s) still (no-node d)
-                (λ m h. h) (λ m h. h) so_far.kept;
+            tags = so_far.tags;
+            same = so_far.same;
+            of_firings = all-more (IsOfFiring g e.world (FiredWith done)) (IsOfFiring g e.world (FiredWith (y ∷ done)))
+                (λ t h k. wish-same g e.world (FiredWith done) (FiredWith (y ∷ done)) still t.0 t.1 t.2 (h k)) so_far.tags so_far.of_firings;
+            apart = so_far.apart;
+            kept = kept-same g e.world (FiredWith done) (FiredWith (y ∷ done)) (IsTagged so_far.tags) (IsTagged so_far.tags) (HasArrived s) (HasArrived s)
+                still (no-node d) (λ j z m h. h) (λ m h. h) so_far.kept;
           })
           go false d =
               let same = so_far.on.code i run.there in
@@ -241,11 +263,39 @@ module _ (g : Graph) (args : List ℕ) (accepted : IsAccepted g) (all : Partitio
               let opened = subst (λ n. has_entered e.world i (block_at (code_of g n) the_node) ≡ true) (sym same)
               (subst (λ k. has_entered e.world i k ≡ true) (sym node-in_block.1) (so_far.on.blocks i b run.open_block)) in
               let new = fires-first fresh d places in
+              let on = fired-onward g accepted e.world (FiredWith done) (IsTagged so_far.tags) (HasArrived s) so_far.kept i there code the_node
+              have.0 new opened callers have.1 in
               rw (then_one, d) (record {
-                on = onward-on s.world e.world (fired g e.world i the_node).world so_far.on
-                    (fired-onward g accepted e.world (FiredWith done) (SentWith e) (HasArrived s) so_far.kept i there code the_node have.0 new opened callers have.1);
+                on = onward-on s.world e.world (fired g e.world i the_node).world so_far.on on;
+                tags = so_far.tags ++ tagged_with i the_node (fired g e.world i the_node).sends;
+                same = map-append so_far.tags (tagged_with i the_node (fired g e.world i the_node).sends)
+                    ∙ (ap₂ (λ l k. l ++ k) so_far.same (tagged-same i the_node (fired g e.world i the_node).sends)
+                    ∙ append_assoc s.sent e.sends (fired g e.world i the_node).sends);
+                of_firings = all-append (IsOfFiring g (fired g e.world i the_node).world (FiredWith (y ∷ done))) so_far.tags
+                    (tagged_with i the_node (fired g e.world i the_node).sends)
+                    (all-more (IsOfFiring g e.world (FiredWith done)) (IsOfFiring g (fired g e.world i the_node).world (FiredWith (y ∷ done)))
+                    (λ t h k. wish-later g e.world (fired g e.world i the_node).world on callers (FiredWith done) (FiredWith (y ∷ done)) still t.0 t.1 t.2
+                    (so_far.kept.there t.1 t.2 (h k).fired) (h k)) so_far.tags so_far.of_firings)
+                    (all-map (IsOfFiring g (fired g e.world i the_node).world (FiredWith (y ∷ done))) (λ o. (o, i, the_node)) (fired g e.world i the_node).sends
+                    (in-each (λ o. asks o ≡ true → IsWish g (fired g e.world i the_node).world (FiredWith (y ∷ done)) o i the_node)
+                    (fired g e.world i the_node).sends (λ o m k. wish-same g (fired g e.world i the_node).world
+                    (λ j z. FiredWith done j z ⊎ ((j ≡ i) × (z ≡ the_node))) (FiredWith (y ∷ done)) (at-node d) o i the_node
+                    (fired-wishes g accepted e.world (FiredWith done) (IsTagged so_far.tags) (HasArrived s) so_far.kept i there code the_node
+                    have.0 new opened callers have.1 o m))));
+                apart = pairs-append TagApart so_far.tags (tagged_with i the_node (fired g e.world i the_node).sends) so_far.apart
+                    (fired-apart g e.world i the_node)
+                    (all-more (IsOfFiring g e.world (FiredWith done))
+                    (λ t. AllByRecursion (TagApart t) (tagged_with i the_node (fired g e.world i the_node).sends))
+                    (λ t h. all-map (TagApart t) (λ o. (o, i, the_node)) (fired g e.world i the_node).sends
+                    (in-each (λ o. TagApart t (o, i, the_node)) (fired g e.world i the_node).sends (λ o m p q r k. new (moved (h p).fired r k)))) so_far.tags
+                    so_far.of_firings);
                 kept = kept-same g (fired g e.world i the_node).world (λ j z. FiredWith done j z ⊎ ((j ≡ i) × (z ≡ the_node))) (FiredWith (y ∷ done))
-                    (λ m. SentWith e m ⊎ In m (fired g e.world i the_node).sends)
-                    (λ m. WasSent s m ⊎ In m (e.sends ++ (fired g e.world i the_node).sends)) (HasArrived s) (HasArrived s) (at-node d) (node-at d) sent (λ m h. h)
-                    (fired-keeps g accepted e.world (FiredWith done) (SentWith e) (HasArrived s) so_far.kept i there code the_node have.0 new opened callers have.1);
+                    (λ j z m. IsTagged so_far.tags j z m ⊎ ((j ≡ i) × (z ≡ the_node) × In m (fired g e.world i the_node).sends))
+                    (IsTagged (so_far.tags ++ tagged_with i the_node (fired g e.world i the_node).sends)) (HasArrived s) (HasArrived s)
+                    (at-node d) (node-at d) sent (λ m h. h)
+                    (fired-keeps g accepted e.world (FiredWith done) (IsTagged so_far.tags) (HasArrived s) so_far.kept i there code the_node
+                    have.0 new opened callers have.1);
               })
+            where
+              moved : {j z : ℕ} → FiredWith done j z → j ≡ i → z ≡ the_node → FiredWith done i the_node
+              moved {j} {z} h p q = subst (λ k. FiredWith done k the_node) p (subst (λ k. FiredWith done j k) q h)

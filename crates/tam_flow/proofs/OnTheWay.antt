@@ -16,7 +16,7 @@ way_from arrived n (m ∷ ms) = elim (has arrived n) [ true ↦ way_from arrived
 -- ---- the definition's list is this one
 
 -- a list with nothing behind
-pub append-none : {X : Type 0} (xs : List X) → xs ++ [] ≡ xs
+append-none : {X : Type 0} (xs : List X) → xs ++ [] ≡ xs
 append-none [] = refl
 append-none (x ∷ xs) = ap (λ l. x ∷ l) (append-none xs)
 

@@ -1,15 +1,14 @@
 -- What a later world keeps of an earlier one, the words of nodes included; and the words with which a node fires.
-use Rattle.std.proofs.Common.{◌≡◌, ℕ, Bool, true, false, ◌==◌, List, [], ◌∷◌, ◌++◌, map, flat_map, refl, sym, ap, ◌∙◌, inl, inr}
+use Rattle.std.proofs.Common.{◌≡◌, ℕ, Bool, true, false, ◌==◌, List, [], ◌∷◌, map, flat_map, refl, sym, ap, ◌∙◌, inl, inr}
 use Rattle.tam_graph.specs.declared.kind.Kind.{Kind}
 use Rattle.tam_graph.specs.declared.kind.Kind.TheVariants.{Const, Op as Operate, Seq, Call, Arg, Give, Alloc, Fetch, Store, Cond, Switch, Leave}
-use Rattle.tam_graph.specs.Graphs.{Graph, code_of, callee_of, kind_at, operands_of, node_where, is_param, is_ret}
+use Rattle.tam_graph.specs.Graphs.{Graph, code_of, callee_of, operands_of, node_where, is_param, is_ret}
 use Rattle.tam_msgs.specs.declared.message.Message.{Message}
 use Rattle.tam_msgs.specs.declared.message.Message.TheVariants.{Word as Carry, Fetch as Ask_cell, Store as Put_cell}
 use Rattle.tam_msgs.specs.Messages.{outside, site}
-use Rattle.tam_flow.specs.Worlds.{World, Effect, activation_at, its_code, word_of, words_of, has_entered, result_message, firing_of, fired_with, fired}
+use Rattle.tam_flow.specs.Worlds.{World, activation_at, its_code, word_of, words_of, has_entered, result_message, firing_of, fired_with, fired}
 use Rattle.tam_flow.specs.Reached.{IsThere, kind_of}
 use Rattle.tam_word.proofs.Members.{In}
-use Rattle.tam_flow.proofs.ActivationLists.{word-shape}
 use Rattle.tam_flow.proofs.FiringReasons.{HaveThese}
 
 -- what a later world keeps of an earlier one

@@ -1,15 +1,15 @@
 -- The operands of a node of an accepted graph: each is a node of its block, with a value.
-use Rattle.std.proofs.Common.{◌≡◌, ℕ, ◌<◌, Bool, true, false, ◌==◌, ◌&&◌, ◌||◌, not, List, [], ◌∷◌, length, nat_lt, refl, sym, ap, ◌∙◌, subst, inl, inr, true≢false}
+use Rattle.std.proofs.Common.{◌≡◌, ℕ, ◌<◌, Bool, true, false, ◌==◌, ◌||◌, not, [], ◌∷◌, length, nat_lt, refl, sym, ap, ◌∙◌, subst, inl, inr, true≢false}
 use Rattle.tam_word.specs.Lists.{any_of, where_so}
 use Rattle.tam_graph.specs.declared.kind.Kind.{Kind}
-use Rattle.tam_graph.specs.declared.kind.Kind.TheVariants.{Param, Const, Op as Operate, Seq, Call, Arg, Ret, Give, Alloc, Fetch, Store, Cond, Switch}
-use Rattle.tam_graph.specs.declared.kind.Kind.TheVariants.{Merge, Enter, Leave}
-use Rattle.tam_graph.specs.Graphs.{Graph, Code, code_of, kind_at, block_at, operands_of, test_of, test_of_kind, has_value}
+use Rattle.tam_graph.specs.declared.kind.Kind.TheVariants.{Op as Operate, Seq, Arg, Give, Alloc, Fetch, Store, Cond, Switch}
+use Rattle.tam_graph.specs.declared.kind.Kind.TheVariants.{Leave}
+use Rattle.tam_graph.specs.Graphs.{Graph, Code, code_of, kind_at, block_at, operands_of, test_of_kind, has_value}
 use Rattle.tam_graph.specs.declared.check_cause.CheckCause.TheVariants.{WrongBlock as Wrong_block}
 use Rattle.tam_graph.specs.Accepted.{IsAccepted, in_wrong_block, is_wrong_block}
 use Rattle.tam_graph.specs.Written.{named_by, is_operand, is_call_node, is_cond_node, is_line}
 use Rattle.tam_word.proofs.Tests.{number-eq, and-left, and-right, test-below}
-use Rattle.tam_word.proofs.Each.{append-nil, where_so-nil, all-of_each}
+use Rattle.tam_word.proofs.Each.{append-nil, where_so-nil}
 use Rattle.tam_word.proofs.Members.{In, in-any, all-in}
 use Rattle.tam_flow.proofs.Nodes.{no-faults, line, call-operand, cond-operand}
 

@@ -1,20 +1,21 @@
 -- What each outlet that ran has done, by what it does and the words of its operands.
-use Rattle.std.proofs.Common.{◌≡◌, ℕ, ◌^◌, ◌<◌, Bool, true, false, ◌==◌, ◌&&◌, List, [], ◌∷◌, map, Option, Some, length, slice_get, nat_lt, refl, sym, ap, ◌∙◌}
+use Rattle.std.proofs.Common.{◌≡◌, ℕ, ◌<◌, true, false, ◌==◌, ◌&&◌, List, [], ◌∷◌, map, Some, length, slice_get, nat_lt, refl, sym, ap, ◌∙◌}
 use Rattle.std.proofs.Common.{arith, subst, inl}
 use Rattle.tam_msgs.specs.declared.message.Message.{Message}
 use Rattle.tam_msgs.specs.declared.message.Message.TheVariants.{Word as Carry, Frame as Begin, Cells as Make, Fetch as Ask_cell, Store as Put_cell}
 use Rattle.tam_msgs.specs.Messages.{outside, site}
 use Rattle.tam_graph.specs.declared.kind.Kind.{Kind}
 use Rattle.tam_graph.specs.declared.kind.Kind.TheVariants.{Param, Call, Arg, Ret, Give, Alloc, Fetch, Store, Cond, Switch, Merge, Enter, Leave}
-use Rattle.tam_graph.specs.Graphs.{Graph, code_of, kind_at, block_at, callee_of, callee_of_kind, chosen_branch, test_of, owner_of, one_or_none, node_where, operands_of}
+use Rattle.tam_graph.specs.Graphs.{Graph, code_of, kind_at, block_at, callee_of, callee_of_kind, chosen_branch, test_of, owner_of, one_or_none, node_where}
+use Rattle.tam_graph.specs.Graphs.{operands_of}
 use Rattle.tam_graph.specs.Graphs.{node_in, is_param, is_ret, is_merge, is_enter}
 use Rattle.tam_graph.specs.Written.{is_operand, is_call_node, is_cond_node}
 use Rattle.tam_graph.proofs.AcceptedFacts.{node-there}
 use Rattle.tam_graph.proofs.Branches.{block-there}
 use Rattle.tam_split.specs.GraphPartitions.{Partitions}
 use Rattle.tam_word.proofs.Tests.{and-left, below-test, eq-number}
-use Rattle.tam_word.proofs.Members.{In, map-in, flat_map-in}
-use Rattle.tam_flow.specs.Worlds.{activation_at, its_code, has_entered, result_message, merges_of}
+use Rattle.tam_word.proofs.Members.{In, flat_map-in}
+use Rattle.tam_flow.specs.Worlds.{activation_at, its_code, result_message, firing_of}
 use Rattle.tam_flow.specs.Journals.{State, Event, state_after}
 use Rattle.tam_flow.specs.JournalLaws.{IsJournal}
 use Rattle.tam_flow.specs.Reached.{IsThere, kind_of, Ran, Has, WasSent, ActivationsStand, OutletsDid}
@@ -31,7 +32,7 @@ use Rattle.tam_flow.proofs.KeptRuns.{IsKeptState}
 use Rattle.tam_flow.proofs.KeptDeliveries.{OneWordSent}
 use Rattle.tam_flow.proofs.KeptJournals.{kept-journal}
 use Rattle.tam_flow.proofs.FiringReasons.{HaveThese}
-use Rattle.tam_flow.proofs.FiredOutlets.{DoneWith, done-with}
+use Rattle.tam_flow.proofs.FiredOutlets.{DoneWith, done-with, tagged-was_sent}
 
 module _ (g : Graph) (all : Partitions) (args : List ℕ) (events : List Event) (journal : IsJournal g all args events)
     (once : OneWordSent (state_after g all args events)) where
@@ -57,8 +58,13 @@ module _ (g : Graph) (all : Partitions) (args : List ℕ) (events : List Event) 
 
   -- an outlet that ran has done what it does
   did : (i x : ℕ) (k : Kind) (vs : List ℕ) → Ran g all s i x → kind_of g s.world i x ≡ k
-      → HaveThese s.world i (operands_of (its_code g s.world i) k) vs → DoneWith g s i x k vs
+      → HaveThese s.world i (operands_of (its_code g s.world i) k) vs → DoneWith g s state.tags i x k vs
   did = done-with g args all s journal.valid sound state
+
+  -- and has sent its messages
+  sent-by : (i x : ℕ) (k : Kind) (vs : List ℕ) → Ran g all s i x → kind_of g s.world i x ≡ k
+      → HaveThese s.world i (operands_of (its_code g s.world i) k) vs → (m : Message) → In m (firing_of g s.world i x k vs).sends → WasSent s m
+  sent-by i x k vs ran kind have m a = tagged-was_sent g args all s journal.valid sound state i x m ((did i x k vs ran kind have).tagged m a)
 
   -- an activation one of whose nodes has a word has a code that is there
   code-there : (i x u : ℕ) → Has s i x u → (activation_at s.world i).code < length g.codes
@@ -72,7 +78,7 @@ module _ (g : Graph) (all : Partitions) (args : List ℕ) (events : List Event) 
   arg-sent : (i y f k a x v p : ℕ) → Ran g all s i y → kind_of g s.world i y ≡ Arg f k a → Has s i a v → Has s i f p
       → kind_of g s.world p x ≡ Param k → WasSent s (Carry p x v)
   arg-sent i y f k a x v p ran kind ha hf param =
-      (did i y (Arg f k a) (v ∷ p ∷ []) ran kind (ha, (hf, tt))).sent (Carry p x v)
+      sent-by i y (Arg f k a) (v ∷ p ∷ []) ran kind (ha, (hf, tt)) (Carry p x v)
       (subst (λ l. In (Carry p x v) (map (λ z. Carry p z v) l)) (sym found) (inl refl))
     where
       here : (activation_at s.world i).code < length g.codes
@@ -80,7 +86,8 @@ module _ (g : Graph) (all : Partitions) (args : List ℕ) (events : List Event) 
 
       at_call : (d : ℕ) × (kind_of g s.world i f ≡ Call d)
       at_call = call-operand (its_code g s.world i) f (and-left (is_call_node (its_code g s.world i) f) (is_operand (its_code g s.world i) a && nat_lt k 64)
-          (line g journal.accepted (activation_at s.world i).code here y (Arg f k a) (there-by (activation_at s.world i).code y (Arg f k a) kind (λ q. cc)) kind))
+          (line g journal.accepted (activation_at s.world i).code here y (Arg f k a)
+          (there-by (activation_at s.world i).code y (Arg f k a) kind (λ q. cc)) kind))
 
       called : (0 < p) × IsThere s.world p × ((activation_at s.world p).caller ≡ i) × ((activation_at s.world p).call ≡ f)
       called = (words-suit g args journal.accepted all s sound wishes i f p hf).by_call at_call.0 at_call.1
@@ -99,7 +106,7 @@ module _ (g : Graph) (all : Partitions) (args : List ℕ) (events : List Event) 
   result-sent : (j y k a x v : ℕ) → Ran g all s j y → kind_of g s.world j y ≡ Give k a → Has s j a v → 0 < j
       → kind_of g s.world (activation_at s.world j).caller x ≡ Ret (activation_at s.world j).call k → WasSent s (Carry (activation_at s.world j).caller x v)
   result-sent j y k a x v ran kind ha later ret =
-      (did j y (Give k a) (v ∷ []) ran kind (ha, tt)).sent (Carry (activation_at s.world j).caller x v)
+      sent-by j y (Give k a) (v ∷ []) ran kind (ha, tt) (Carry (activation_at s.world j).caller x v)
       (rw (result_message, inner) (subst (λ l. In (Carry (activation_at s.world j).caller x v) (map (λ z. Carry (activation_at s.world j).caller z v) l))
       (sym found) (inl refl)))
     where
@@ -120,7 +127,7 @@ module _ (g : Graph) (all : Partitions) (args : List ℕ) (events : List Event) 
   -- the root's results go outside
   result-printed : (y k a v : ℕ) → Ran g all s 0 y → kind_of g s.world 0 y ≡ Give k a → Has s 0 a v → WasSent s (Carry outside k v)
   result-printed y k a v ran kind ha =
-      (did 0 y (Give k a) (v ∷ []) ran kind (ha, tt)).sent (Carry outside k v)
+      sent-by 0 y (Give k a) (v ∷ []) ran kind (ha, tt) (Carry outside k v)
       (let e : ((activation_at s.world 0).caller == outside) ≡ true = eq-number _ _ activations.root_outside in rw (result_message, e) (inl refl))
 
   -- a switch gives its word to the `in` of the branch chosen
@@ -161,15 +168,15 @@ module _ (g : Graph) (all : Partitions) (args : List ℕ) (events : List Event) 
   -- each outlet that ran has done what it does
   pub outlets-did : OutletsDid g all (state_after g all args events)
   outlets-did = record {
-    call_sent = λ i f c ran kind. (did i f (Call c) [] ran kind tt).sent (Begin c i f) (inl refl);
+    call_sent = λ i f c ran kind. sent-by i f (Call c) [] ran kind tt (Begin c i f) (inl refl);
     arg_sent = arg-sent;
     result_sent = result-sent;
     result_printed = result-printed;
-    alloc_sent = λ i x n v ran kind h. (did i x (Alloc n) (v ∷ []) ran kind (h, tt)).sent (Make v i x) (inl refl);
+    alloc_sent = λ i x n v ran kind h. sent-by i x (Alloc n) (v ∷ []) ran kind (h, tt) (Make v i x) (inl refl);
     fetch_sent = λ i x a j u v ran kind h k.
-        (did i x (Fetch a j) (u ∷ v ∷ []) ran kind (h, (k, tt))).sent (Ask_cell u v i x (site (activation_at s.world i).code x)) (inl refl);
+        sent-by i x (Fetch a j) (u ∷ v ∷ []) ran kind (h, (k, tt)) (Ask_cell u v i x (site (activation_at s.world i).code x)) (inl refl);
     store_sent = λ i x a j b t u v ran kind h k l.
-        (did i x (Store a j b) (t ∷ u ∷ v ∷ []) ran kind (h, (k, (l, tt)))).sent (Put_cell t u v (site (activation_at s.world i).code x)) (inl refl);
+        sent-by i x (Store a j b) (t ∷ u ∷ v ∷ []) ran kind (h, (k, (l, tt))) (Put_cell t u v (site (activation_at s.world i).code x)) (inl refl);
     cond_entered = λ i c p y n v ran kind h. (did i c (Cond p y n) (v ∷ []) ran kind (h, tt)).entered (chosen_branch (its_code g s.world i) c v) (inl refl);
     switch_gave = switch-gave;
     leave_gave = leave-gave;

@@ -1,9 +1,9 @@
 -- Words on their way are for nodes to which messages carry words: params, rets, calls, allocs and fetches.
-use Rattle.std.proofs.Common.{◌≡◌, ℕ, ◌<◌, Bool, true, false, ◌==◌, ◌&&◌, List, [], ◌∷◌, ◌++◌, map, Option, Some, None, length, slice_get, nat_lt, refl, sym, ap}
+use Rattle.std.proofs.Common.{◌≡◌, ℕ, ◌<◌, Bool, true, false, ◌==◌, ◌&&◌, List, [], ◌∷◌, map, Option, Some, None, length, slice_get, nat_lt, refl, sym, ap}
 use Rattle.std.proofs.Common.{◌∙◌, subst, inl, inr, ◌⊎◌}
 use Rattle.std.specs.List.{AllByRecursion}
 use Rattle.tam_graph.specs.declared.kind.Kind.{Kind}
-use Rattle.tam_graph.specs.declared.kind.Kind.TheVariants.{Param, Const, Op as Operate, Seq, Call, Arg, Ret, Give, Alloc, Fetch, Store, Cond, Switch}
+use Rattle.tam_graph.specs.declared.kind.Kind.TheVariants.{Const, Op as Operate, Seq, Call, Arg, Give, Alloc, Fetch, Store, Cond, Switch}
 use Rattle.tam_graph.specs.declared.kind.Kind.TheVariants.{Leave}
 use Rattle.tam_msgs.specs.declared.message.Message.{Message}
 use Rattle.tam_msgs.specs.declared.message.Message.TheVariants.{Word as Carry, Frame as Begin, Cells as Make, Fetch as Ask_cell, Store as Put_cell}
@@ -16,18 +16,19 @@ use Rattle.tam_split.specs.Blocks.{BlockGraph, vertex_at}
 use Rattle.tam_fire.specs.FiringRules.{Path, Activation, Entered, Val, Holds, code_at, node_of}
 use Rattle.tam_word.proofs.Tests.{and-left}
 use Rattle.tam_word.proofs.Each.{all-append, all-more, all-map}
-use Rattle.tam_flow.specs.Worlds.{World, Effect, Delivery, Went, Printed, Faulted, activation_at, its_code, words_of, result_message, firing_of, fired_with, fired}
+use Rattle.tam_flow.specs.Worlds.{World, Effect, Delivery, Went, Printed, Faulted, activation_at, its_code, words_of, result_message, firing_of, fired_with}
+use Rattle.tam_flow.specs.Worlds.{fired}
 use Rattle.tam_flow.specs.Worlds.{accessed, delivered}
 use Rattle.tam_flow.specs.Told.{IsNumber, path_of}
 use Rattle.tam_flow.specs.Journals.{fire_each}
 use Rattle.tam_flow.specs.Reached.{IsThere, kind_of}
 use Rattle.tam_flow.proofs.ActivationCounts.{then_one}
 use Rattle.tam_flow.proofs.ClassRuns.{IsReady, sound-one}
-use Rattle.tam_flow.proofs.Deliveries.{IsSoundEffect, there-some}
+use Rattle.tam_flow.proofs.Deliveries.{IsSoundEffect}
 use Rattle.tam_flow.proofs.FiringReasons.{HaveThese, words-are, MayFire, path-code, call-is, its_line}
 use Rattle.tam_flow.proofs.Firings.{fired-sound}
 use Rattle.tam_flow.proofs.Givers.{is_received}
-use Rattle.tam_flow.proofs.Growing.{Grows, grows-begun, grows-made, with_begun}
+use Rattle.tam_flow.proofs.Growing.{Grows, grows-begun, with_begun}
 use Rattle.tam_flow.proofs.Justified.{IsAsked, IsMessage, IsSoundWorld}
 use Rattle.tam_flow.proofs.Nodes.{call-operand, where-each, is-param, is-ret}
 
@@ -68,7 +69,8 @@ module _ {g : Graph} {args : List ℕ} {w : World} {i x : ℕ} (firer : MayFire 
       (where-each (code_of g (callee_of (its_code g w i) f)) (is_param k)))
     where
       at_call : (d : ℕ) × (kind_at (its_code g w i) f ≡ Call d)
-      at_call = call-operand (its_code g w i) f (and-left (is_call_node (its_code g w i) f) (is_operand (its_code g w i) a && nat_lt k 64) (its_line firer (Arg f k a) e))
+      at_call = call-operand (its_code g w i) f
+          (and-left (is_call_node (its_code g w i) f) (is_operand (its_code g w i) a && nat_lt k 64) (its_line firer (Arg f k a) e))
 
       called : IsNumber w (f ∷ path_of w i) p × Holds g args (Val (path_of w i) f (Activation (f ∷ path_of w i)))
       called = call-is firer.stands f p at_call.0 at_call.1 h.1.0

@@ -1,16 +1,15 @@
 -- Where each word comes from, and that what ran had the words that it takes.
-use Rattle.std.proofs.Common.{◌≡◌, ℕ, ◌<◌, Bool, true, false, List, [], ◌∷◌, length, slice_get, Some, refl, sym, ap, ◌∙◌, subst, ⊎_elim, true≢false}
-use Rattle.tam_word.specs.Words.{meaning}
+use Rattle.std.proofs.Common.{◌≡◌, ℕ, true, List, [], ◌∷◌, refl, sym, ap, ◌∙◌, subst, ⊎_elim, true≢false}
 use Rattle.tam_msgs.specs.declared.message.Message.TheVariants.{Word as Carry}
 use Rattle.tam_graph.specs.declared.kind.Kind.{Kind}
-use Rattle.tam_graph.specs.declared.kind.Kind.TheVariants.{Param, Const, Op as Operate, Seq, Call, Ret, Alloc, Fetch, Switch, Merge, Enter, Leave}
-use Rattle.tam_graph.specs.Graphs.{Graph, code_of, kind_at, block_at, operands_of, is_outlet}
+use Rattle.tam_graph.specs.declared.kind.Kind.TheVariants.{Param, Const, Op as Operate, Seq, Call, Ret, Alloc, Fetch, Switch, Leave}
+use Rattle.tam_graph.specs.Graphs.{Graph, operands_of, is_outlet}
 use Rattle.tam_split.specs.GraphPartitions.{Partitions}
 use Rattle.tam_split.proofs.Firers.{is_inner}
 use Rattle.tam_flow.specs.Worlds.{its_code}
-use Rattle.tam_flow.specs.Journals.{State, Event, state_after, has_run, parts_of_act}
+use Rattle.tam_flow.specs.Journals.{State, Event, state_after}
 use Rattle.tam_flow.specs.JournalLaws.{IsJournal}
-use Rattle.tam_flow.specs.Reached.{IsThere, kind_of, Ran, Has, HasSome, HaveSome, HasArrived, WordSource, WordsStand}
+use Rattle.tam_flow.specs.Reached.{kind_of, Ran, Has, HaveSome, HasArrived, WordSource, WordsStand}
 use Rattle.tam_flow.proofs.Suiting.{words-there, words-suit}
 use Rattle.tam_flow.proofs.SoundStates.{IsSoundState, sound-journal}
 use Rattle.tam_flow.proofs.SentOnce.{IsOnceState, HasFired}
@@ -18,7 +17,7 @@ use Rattle.tam_flow.proofs.DeliveredOnce.{once-journal}
 use Rattle.tam_flow.proofs.FiringReasons.{HaveThese}
 use Rattle.tam_flow.proofs.Gifts.{gift}
 use Rattle.tam_flow.proofs.Givers.{is_received, GivenTo, Itself, Inwards, Outwards, given-to}
-use Rattle.tam_flow.proofs.Kept.{IsGift, HasDone}
+use Rattle.tam_flow.proofs.Kept.{IsGift}
 use Rattle.tam_flow.proofs.KeptRuns.{IsKeptState}
 use Rattle.tam_flow.proofs.KeptDeliveries.{OneWordSent}
 use Rattle.tam_flow.proofs.KeptJournals.{kept-journal}

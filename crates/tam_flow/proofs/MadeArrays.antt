@@ -25,7 +25,7 @@ use Rattle.tam_flow.proofs.DeliveryChanges.{arrays-run}
 use Rattle.tam_flow.proofs.SentOnce.{arrived-now}
 use Rattle.tam_flow.proofs.Suiting.{one-make}
 use Rattle.tam_flow.proofs.SoundStates.{IsRunnable}
-use Rattle.tam_flow.proofs.RunSteps.{IsKept, run-kept}
+use Rattle.tam_flow.proofs.RunSteps.{KeptByFirings, run-kept}
 use Rattle.tam_flow.proofs.Accesses.{with_new_cell, FetchCases, StoreCases, fetch-cases, store-cases}
 use Rattle.tam_flow.proofs.JournalSteps.{IsLegalState}
 use Rattle.tam_flow.proofs.WordSteps.{Continues, NoneNew, ThisNew, continues-run, continues-delivery, IsWordedState, KeptByEvents, events-keep}
@@ -63,7 +63,7 @@ makers-fired g w i x = go (words_of w i (operands_of (its_code g w i) (kind_at (
 
 -- so each firing of a run keeps the makers
 makers-kept : (g : Graph) (args : List ℕ) (accepted : IsAccepted g) (w : World) (i : ℕ) (there : IsThere w i) (b : BlockGraph)
-    → IsKept g args accepted w i there b (λ done e. e.world.makers ≡ w.makers)
+    → KeptByFirings g args accepted w i there b (λ done e. e.world.makers ≡ w.makers)
 makers-kept g args accepted w i there b = record {
   skips = λ done e y h d. h;
   fires = λ done e y effect same h firer l none new. makers-fired g e.world i (vertex_at b y).node ∙ h;

@@ -40,13 +40,13 @@ among (x ∷ xs) = (inl refl, all-more (λ z. In z xs) (λ z. In z (x ∷ xs)) (
 module _ (g : Graph) (args : List ℕ) (accepted : IsAccepted g) (w : World) (i : ℕ) (there : IsThere w i) (b : BlockGraph)
     (P : List ℕ → Effect → Type 0) where
   -- what is asked of one firing: it keeps the property, with its place among those done
-  pub record IsKept : Type 0 where
+  pub record KeptByFirings : Type 0 where
     pub skips : (done : List ℕ) (e : Effect) (y : ℕ) → P done e → (vertex_at b y).inlet ≡ true → P (y ∷ done) e
     pub fires : (done : List ℕ) (e : Effect) (y : ℕ) → IsSoundEffect g args w e → size e.world ≡ size w → P done e
         → MayFire g args e.world i (vertex_at b y).node → y < length b.vertices → (vertex_at b y).inlet ≡ false → (In y done → ⊥)
         → P (y ∷ done) (record { world = (fired g e.world i (vertex_at b y).node).world; sends = e.sends ++ (fired g e.world i (vertex_at b y).node).sends })
 
-  module _ (kept : IsKept) where
+  module _ (kept : KeptByFirings) where
     -- so one more vertex keeps it
     one-kept : (done : List ℕ) (e : Effect) (y : ℕ) → IsSoundEffect g args w e → size e.world ≡ size w → P done e → IsReady g args accepted w i there b y
         → y < length b.vertices → (In y done → ⊥) → P (y ∷ done) (then_one g b i e y)
@@ -83,7 +83,7 @@ run_done g all s i b c = done_after [] (firing_order (block_of_act g s i b).edge
 module _ (g : Graph) (args : List ℕ) (accepted : IsAccepted g) (all : Partitions) (valid : are_valid g all ≡ true) (s : State)
     (sound : IsSoundState g args s) (once : IsOnceState g args all s) (i b c : ℕ) (run : IsRunnable g all s i b c) where
   -- what each firing keeps the run keeps
-  pub run-kept : (P : List ℕ → Effect → Type 0) → IsKept g args accepted s.world i run.there (block_of_act g s i b) P
+  pub run-kept : (P : List ℕ → Effect → Type 0) → KeptByFirings g args accepted s.world i run.there (block_of_act g s i b) P
       → P [] (record { world = s.world; sends = [] }) → P (run_done g all s i b c) (class_fired g all s i b c)
   run-kept P kept h =
       each-kept g args accepted s.world i run.there (block_of_act g s i b) P kept

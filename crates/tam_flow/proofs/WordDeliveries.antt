@@ -32,7 +32,8 @@ use Rattle.tam_flow.proofs.SentOnce.{HasFired, IsOnceState, arrived-more, arrive
 use Rattle.tam_flow.proofs.DeliveredOnce.{one-wish, once-event}
 use Rattle.tam_flow.proofs.WordSenders.{IsFor, WordsApart, SendsTo, for-eq}
 use Rattle.tam_flow.proofs.Givers.{is_received}
-use Rattle.tam_flow.proofs.ComingWords.{has-there, got-cases, got-here, begun-words}
+use Rattle.tam_flow.proofs.Kept.{word-act}
+use Rattle.tam_flow.proofs.ComingWords.{got-cases, got-here, begun-words}
 use Rattle.tam_flow.proofs.WordSources.{IsAskOf, HasAsked, WordCause, IsCaused, ReadersApart, IsWaiting, WaitHere, IsWordState, ask-kind, sends-uncut, one-ask}
 use Rattle.tam_flow.proofs.WordSources.{cause-takes, caused-later, words-initial, words-run}
 use Rattle.tam_flow.proofs.Accesses.{with_new_cell, FetchCases, StoreCases, fetch-cases, store-cases}
@@ -165,7 +166,7 @@ module _ (g : Graph) (args : List ℕ) (accepted : IsAccepted g) (all : Partitio
         pub words-same : (f y u : ℕ) → word_of e.world f y ≡ u ∷ [] → is_received (kind_of g e.world f y) ≡ true → HasArrived (after_delivery s m (Went e)) (Carry f y u)
         words-same f y u h takes =
             let old : word_of s.world f y ≡ u ∷ [] = sym (same f y) ∙ h in
-            let t = has-there s.world f y u old in
+            let t = word-act s.world f y u old in
             let r = done.words f y u old (subst (λ n. is_received (kind_at (code_of g n) y) ≡ true) (grows.code f t) takes) in
             (r.0, sent e.sends r.0 (Carry f y u) r.1, arrived-more m s.arrived r.0 r.2)
 
@@ -259,7 +260,7 @@ module _ (g : Graph) (args : List ℕ) (accepted : IsAccepted g) (all : Partitio
               old : word_of (got s.world f y u) e z ≡ word_of s.world e z → HasArrived (after_delivery s m (Went (changes (got s.world f y u)))) (Carry e z t)
               old q =
                   let w : word_of s.world e z ≡ t ∷ [] = sym q ∙ h in
-                  let code = (grows-got s.world f y u).code e (has-there s.world e z t w) in
+                  let code = (grows-got s.world f y u).code e (word-act s.world e z t w) in
                   let r = done.words e z t w (subst (λ n. is_received (kind_at (code_of g n) z) ≡ true) code takes) in
                   (r.0, sent [] r.0 (Carry e z t) r.1, arrived-more m s.arrived r.0 r.2)
 

@@ -32,7 +32,7 @@ use Rattle.tam_flow.proofs.ActivationCounts.{size}
 use Rattle.tam_flow.proofs.Pairs.{Pairs, pairs-append}
 use Rattle.tam_flow.proofs.SentOnce.{cons-tail, nil-cons}
 use Rattle.tam_flow.proofs.InterfacePlaces.{place-one}
-use Rattle.tam_flow.proofs.RunSteps.{IsKept}
+use Rattle.tam_flow.proofs.RunSteps.{KeptByFirings}
 
 -- the message is a word for node x of activation f
 abbrev pub IsFor : ℕ → ℕ → Message → Type 0
@@ -349,7 +349,7 @@ module _ (g : Graph) (args : List ℕ) (accepted : IsAccepted g) (w : World) (so
     (one_place : (y z : ℕ) → y < length b.vertices → z < length b.vertices → (vertex_at b y).inlet ≡ false → (vertex_at b z).inlet ≡ false
     → (vertex_at b y).node ≡ (vertex_at b z).node → y ≡ z) where
   -- each firing keeps it
-  pub words-kept : IsKept g args accepted w i there b (IsWordRun g b i)
+  pub words-kept : KeptByFirings g args accepted w i there b (IsWordRun g b i)
   words-kept = record {
     skips = λ done e y h d. record {
       apart = h.apart;

@@ -37,7 +37,8 @@ use Rattle.tam_flow.proofs.RunSteps.{run-kept, run-size, run-more, run_done, fir
 use Rattle.tam_flow.proofs.WordSenders.{IsFor, WordsApart, PathsDiffer, differ-later, SendsTo, sends-once, sends-later, param-eq, param-ret, few-pairs, for-eq, IsSentIn}
 use Rattle.tam_flow.proofs.WordSenders.{IsWordRun, words-kept}
 use Rattle.tam_flow.proofs.Givers.{is_received}
-use Rattle.tam_flow.proofs.ComingWords.{split-received, has-there, AreKept, coming-kept}
+use Rattle.tam_flow.proofs.Kept.{word-act}
+use Rattle.tam_flow.proofs.ComingWords.{split-received, AreKept, coming-kept}
 
 -- the message asks for a word for node x of activation f
 abbrev pub IsAskOf : ℕ → ℕ → Message → Type 0
@@ -221,7 +222,7 @@ module _ (g : Graph) (args : List ℕ) where
         (pairs-more (λ e d. e.0 ≡ d.0 → ⊥) (λ e d. AllByRecursion (λ m. AllByRecursion (WordsApart m) (argument_message g d)) (argument_message g e))
         arguments-apart (zip (counted 0 (length args)) args) (places-apart 0 args)));
     causes = all-flat (IsCaused g all (initial g args)) (argument_message g) (zip (below (length args)) args) (caused (zip (below (length args)) args));
-    words = λ f x u h takes. absurd (none-has f x u (has-there (opening g) f x u h) h);
+    words = λ f x u h takes. absurd (none-has f x u (word-act (opening g) f x u h) h);
     carried = λ f x u h inside. absurd (true≢false (sym h.2));
     waits = λ a j rs e. absurd (none-some e);
   }
@@ -270,7 +271,7 @@ module _ (g : Graph) (args : List ℕ) (accepted : IsAccepted g) (all : Partitio
     words = λ f x u h takes. still (Carry f x u) (word f x u h takes);
     carried = λ f x u h inside.
         let r = done.carried f x u (back (Carry f x u) h) inside in
-        let t = has-there s.world f x u r in
+        let t = word-act s.world f x u r in
         kept f x t (cause-takes g args accepted all s sound once f x (at f x u (back (Carry f x u) h) inside)) ∙ r;
     waits = λ a j rs e.
         let old = done.waits a j rs (subst (λ l. slice_get (unwrap_or (slice_get l a) []) j ≡ Some (Empty rs)) (arrays-run g all s i b c) e) in
@@ -320,7 +321,7 @@ module _ (g : Graph) (args : List ℕ) (accepted : IsAccepted g) (all : Partitio
           → HasArrived s (Carry f x u)
       word f x u h takes =
           let t : IsThere s.world f = subst (λ n. f < n) (run-size g args accepted all valid s sound once i b c run)
-          (has-there (class_fired g all s i b c).world f x u h) in
+          (word-act (class_fired g all s i b c).world f x u h) in
           let k : is_received (kind_of g s.world f x) ≡ true = subst (λ n. is_received (kind_at (code_of g n) x) ≡ true) (effect.grows.code f t) takes in
           done.words f x u (sym (kept f x t k) ∙ h) k
 

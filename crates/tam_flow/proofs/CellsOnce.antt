@@ -1,33 +1,30 @@
 -- Stores and fetches that arrived, behind each legal journal: what a cell has came by one store, and who waits for it has asked.
-use Rattle.std.proofs.Common.{◌≡◌, ℕ, ◌<◌, true, false, ◌==◌, Bool, List, [], ◌∷◌, ◌++◌, replicate, Some, None, length, slice_get, unwrap_or, refl, sym, ap, ◌∙◌, subst}
-use Rattle.std.proofs.Common.{inl, inr, ◌⊎◌, ⊎_elim, true≢false, Contains}
+use Rattle.std.proofs.Common.{◌≡◌, ℕ, true, false, ◌==◌, Bool, List, [], ◌∷◌, replicate, Some, None, length, slice_get, unwrap_or, refl, sym, subst}
+use Rattle.std.proofs.Common.{inl, inr, ◌⊎◌, true≢false, Contains}
 use Rattle.std.specs.List.{AllByRecursion}
 use Rattle.std.proofs.lemmas.Option.{get_or_from_slice_get, slice_get_read}
-use Rattle.std.proofs.lemmas.List.Elements.{Contains-append_left, Contains-append_right}
 use Rattle.tam_word.specs.Lists.{has}
-use Rattle.tam_word.proofs.Each.{get-left, all-at_place, each-in}
+use Rattle.tam_word.proofs.Each.{get-left, all-at_place}
 use Rattle.tam_word.proofs.Members.{In, in-get}
 use Rattle.tam_graph.specs.Graphs.{Graph}
 use Rattle.tam_graph.specs.Accepted.{IsAccepted}
 use Rattle.tam_split.specs.GraphPartitions.{Partitions, are_valid}
 use Rattle.tam_msgs.specs.declared.message.Message.{Message}
 use Rattle.tam_msgs.specs.declared.message.Message.TheVariants.{Word as Carry, Frame as Begin, Cells as Make, Fetch as Ask_cell, Store as Put_cell}
-use Rattle.tam_msgs.specs.Messages.{outside, answers}
+use Rattle.tam_msgs.specs.Messages.{outside}
 use Rattle.tam_istr.specs.Cells.{Cell, Reader, Empty, Filled, with_array}
-use Rattle.tam_flow.specs.Worlds.{World, Delivery, Went, Printed, Faulted, changes, sends_only, got, delivered}
+use Rattle.tam_flow.specs.Worlds.{Delivery, Went, Printed, Faulted, changes, got, delivered}
 use Rattle.tam_flow.specs.Journals.{State, Event, Run, after_delivery, after_event, state_after}
 use Rattle.tam_flow.specs.JournalLaws.{IsJournal}
-use Rattle.tam_flow.specs.Reached.{cells_at, cell_at, WasSent, HasArrived}
+use Rattle.tam_flow.specs.Reached.{cell_at, WasSent, HasArrived}
 use Rattle.tam_flow.proofs.CellChanges.{cell-array}
 use Rattle.tam_flow.proofs.Deliveries.{some-below}
 use Rattle.tam_flow.proofs.DeliveryChanges.{arrays-run}
-use Rattle.tam_flow.proofs.SoundStates.{IsRunnable}
-use Rattle.tam_flow.proofs.SentOnce.{IsOnceState}
 use Rattle.tam_flow.proofs.DeliveredOnce.{once-journal}
-use Rattle.tam_flow.proofs.Accesses.{with_new_cell, FetchCases, StoreCases, fetch-cases, store-cases}
+use Rattle.tam_flow.proofs.Accesses.{FetchCases, StoreCases, fetch-cases, store-cases}
 use Rattle.tam_flow.proofs.WordSources.{IsWaiting}
 use Rattle.tam_flow.proofs.WordsOnce.{words-journal}
-use Rattle.tam_flow.proofs.WordSteps.{Continues, NoneNew, ThisNew, continues-run, continues-delivery, IsWordedState, KeptByEvents, events-keep}
+use Rattle.tam_flow.proofs.WordSteps.{Continues, NoneNew, ThisNew, continues-run, continues-delivery, IsWordedState, events-keep}
 use Rattle.tam_flow.proofs.FilledCells.{IsServed, IsFilledState, filled-same, filled-fault, filled-now, filled-deferred, filled-stored}
 
 -- a word is no store
@@ -80,7 +77,8 @@ module _ (g : Graph) (args : List ℕ) (accepted : IsAccepted g) (all : Partitio
           rw (delivered, p) (filled-same s (after_delivery s m (Printed y u)) (ThisNew m (Carry f y u)) (on (Printed y u)) (λ n a j v t r. carry-put r.1)
           (λ n a j e z t r. carry-ask r.1) (λ a j c e. e) whole h)
       go false p on =
-          rw (delivered, p) (filled-same s (after_delivery s m (Went (changes (got s.world f y u)))) (ThisNew m (Carry f y u)) (on (Went (changes (got s.world f y u))))
+          rw (delivered, p) (filled-same s (after_delivery s m (Went (changes (got s.world f y u)))) (ThisNew m (Carry f y u))
+          (on (Went (changes (got s.world f y u))))
           (λ n a j v t r. carry-put r.1) (λ n a j e z t r. carry-ask r.1) (λ a j c e. e) whole h)
   filled-delivered m (Begin c f y) is_sent =
       filled-same s (after_delivery s m (delivered s.world (Begin c f y))) (ThisNew m (Begin c f y))
@@ -127,7 +125,8 @@ module _ (g : Graph) (all : Partitions) (args : List ℕ) (events : List Event) 
   stored-each whole a j v t h = (filled-journal g all args events journal).stored whole h.0 a j v t h.1 h.2
 
   -- one store at most has arrived for it
-  pub one-stored : (state_after g all args events).fault ≡ None → (m n a j u v t e : ℕ) → slice_get (state_after g all args events).sent m ≡ Some (Put_cell a j u t)
+  pub one-stored : (state_after g all args events).fault ≡ None → (m n a j u v t e : ℕ)
+      → slice_get (state_after g all args events).sent m ≡ Some (Put_cell a j u t)
       → slice_get (state_after g all args events).sent n ≡ Some (Put_cell a j v e) → has (state_after g all args events).arrived m ≡ true
       → has (state_after g all args events).arrived n ≡ true → m ≡ n
   one-stored whole m n a j u v t e p q k l = (filled-journal g all args events journal).once whole m n a j u v t e p q k l

@@ -1,5 +1,5 @@
 -- A node to which a message carries its word gets none from a run: no firing gives it one.
-use Rattle.std.proofs.Common.{◌≡◌, ℕ, Bool, true, false, List, [], ◌∷◌, refl, sym, ap, ◌∙◌, subst, inl, inr, ◌⊎◌, ⊎_elim, true≢false}
+use Rattle.std.proofs.Common.{◌≡◌, ℕ, true, false, List, [], ◌∷◌, refl, sym, ap, ◌∙◌, subst, inl, inr, ◌⊎◌, ⊎_elim, true≢false}
 use Rattle.tam_word.proofs.Members.{In}
 use Rattle.tam_graph.specs.declared.kind.Kind.{Kind}
 use Rattle.tam_graph.specs.declared.kind.Kind.TheVariants.{Param, Ret, Call, Alloc, Fetch}
@@ -42,7 +42,8 @@ got-here w i y v t = (got-one w i y v).given y t (inl refl)
 pub begun-words : (w : World) (c e y f x : ℕ) → word_of (with_begun w c e y) f x ≡ word_of w f x
 begun-words w c e y f x =
     ⊎_elim (λ k. ap (λ o. word_among (or_activation o).words x) k)
-    (λ k. ap (λ o. word_among (or_activation o).words x) k.1 ∙ sym (ap (λ o. word_among (or_activation o).words x) k.0)) (push-cases w.activations (begun c e y) f)
+    (λ k. ap (λ o. word_among (or_activation o).words x) k.1 ∙ sym (ap (λ o. word_among (or_activation o).words x) k.0))
+    (push-cases w.activations (begun c e y) f)
 
 -- ---- a firing
 

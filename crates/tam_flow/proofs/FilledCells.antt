@@ -1,28 +1,20 @@
 -- While there is no fault: a cell for which a store arrived has its word, one store at most arrives for a cell, and who fetched waits or was sent the word.
-use Rattle.std.proofs.Common.{◌≡◌, ℕ, ◌<◌, true, false, ◌==◌, Bool, List, [], ◌∷◌, ◌++◌, map, replicate, Option, Some, None, length, slice_get, unwrap_or, refl, sym, ap, ◌∙◌}
-use Rattle.std.proofs.Common.{subst, inl, inr, ◌⊎◌, ⊎_elim, true≢false, Contains}
-use Rattle.std.proofs.lemmas.Option.{get_or_from_slice_get}
+use Rattle.std.proofs.Common.{◌≡◌, ℕ, ◌<◌, true, List, [], ◌∷◌, ◌++◌, Some, None, length, slice_get, refl, sym, ◌∙◌}
+use Rattle.std.proofs.Common.{subst, inl, inr, ◌⊎◌, ⊎_elim}
 use Rattle.tam_word.specs.Lists.{has}
-use Rattle.tam_word.proofs.Each.{get-left, get-last}
+use Rattle.tam_word.proofs.Each.{get-last}
 use Rattle.tam_word.proofs.Members.{In, left-in, right-in, map-in, in-get}
-use Rattle.tam_graph.specs.Graphs.{Graph}
-use Rattle.tam_graph.specs.Accepted.{IsAccepted}
-use Rattle.tam_split.specs.GraphPartitions.{Partitions, are_valid}
 use Rattle.tam_msgs.specs.declared.message.Message.{Message}
-use Rattle.tam_msgs.specs.declared.message.Message.TheVariants.{Word as Carry, Frame as Begin, Cells as Make, Fetch as Ask_cell, Store as Put_cell}
-use Rattle.tam_msgs.specs.Messages.{outside, answers}
-use Rattle.tam_istr.specs.Cells.{Cell, Reader, Empty, Filled, with_array}
-use Rattle.tam_flow.specs.Worlds.{World, Delivery, Went, Printed, Faulted, Fault, changes, sends_only, got, delivered}
-use Rattle.tam_flow.specs.Journals.{State, Event, Run, after_delivery, after_event, state_after}
-use Rattle.tam_flow.specs.JournalLaws.{IsJournal}
-use Rattle.tam_flow.specs.Reached.{cells_at, cell_at, WasSent, HasArrived}
-use Rattle.tam_flow.proofs.CellChanges.{none-some, some-eq, cell-array}
-use Rattle.tam_flow.proofs.Deliveries.{some-below}
-use Rattle.tam_flow.proofs.DeliveryChanges.{arrays-run}
-use Rattle.tam_flow.proofs.SoundStates.{IsRunnable}
-use Rattle.tam_flow.proofs.Accesses.{with_new_cell, FetchCases, StoreCases, fetch-cases, store-cases, cell-here, cell-other}
+use Rattle.tam_msgs.specs.declared.message.Message.TheVariants.{Word as Carry, Fetch as Ask_cell, Store as Put_cell}
+use Rattle.tam_msgs.specs.Messages.{answers}
+use Rattle.tam_istr.specs.Cells.{Cell, Reader, Empty, Filled}
+use Rattle.tam_flow.specs.Worlds.{Went, Fault, changes, sends_only}
+use Rattle.tam_flow.specs.Journals.{State, after_delivery}
+use Rattle.tam_flow.specs.Reached.{cell_at, WasSent}
+use Rattle.tam_flow.proofs.CellChanges.{none-some, some-eq}
+use Rattle.tam_flow.proofs.Accesses.{with_new_cell, cell-here, cell-other}
 use Rattle.tam_flow.proofs.WordDeliveries.{filled-empty, empty-eq}
-use Rattle.tam_flow.proofs.WordSteps.{Continues, NoneNew, ThisNew, continues-run, continues-delivery, IsWordedState, KeptByEvents, events-keep}
+use Rattle.tam_flow.proofs.WordSteps.{Continues, ThisNew, continues-delivery}
 
 -- node x of activation f waits for cell j of array a, or was sent its word
 abbrev pub IsServed : State → ℕ → ℕ → ℕ → ℕ → Type 0
@@ -45,7 +37,8 @@ pub filled-same : (s v : State) (New : ℕ → Message → Type 0) → Continues
 filled-same s v New on no_put no_ask cells whole h = record {
   stored = λ w n a j u t e q.
       ⊎_elim (λ r. cells a j (Filled u t) (h.stored whole n a j u t r.0 r.1)) (λ r. absurd (no_put n a j u t r)) (on.back n (Put_cell a j u t) e q);
-  fetched = λ w n a j f x t e q. ⊎_elim (λ r. later a j f x (h.fetched whole n a j f x t r.0 r.1)) (λ r. absurd (no_ask n a j f x t r)) (on.back n (Ask_cell a j f x t) e q);
+  fetched = λ w n a j f x t e q. ⊎_elim (λ r. later a j f x (h.fetched whole n a j f x t r.0 r.1)) (λ r. absurd (no_ask n a j f x t r))
+      (on.back n (Ask_cell a j f x t) e q);
   once = λ w m n a j u y t e p q k l.
       ⊎_elim (λ r. ⊎_elim (λ z. h.once whole m n a j u y t e r.0 z.0 r.1 z.1) (λ z. absurd (no_put n a j y e z)) (on.back n (Put_cell a j y e) q l))
       (λ r. absurd (no_put m a j u t r)) (on.back m (Put_cell a j u t) p k);
@@ -86,7 +79,8 @@ module _ (s : State) (before : (n : ℕ) → has s.arrived n ≡ true → n < le
       → IsFilledState (after_delivery s m (Went (sends_only s.world (Carry f x u ∷ []))))
   filled-now a j f x t u e is_sent was = record {
     stored = λ w n b i y d p q. ⊎_elim (λ r. h.stored whole n b i y d r.0 r.1) (λ r. absurd (ask-put r.1)) (on.back n (Put_cell b i y d) p q);
-    fetched = λ w n b i k z d p q. ⊎_elim (λ r. later b i k z (h.fetched whole n b i k z d r.0 r.1)) (λ r. this b i k z (ask-eq r.1)) (on.back n (Ask_cell b i k z d) p q);
+    fetched = λ w n b i k z d p q. ⊎_elim (λ r. later b i k z (h.fetched whole n b i k z d r.0 r.1)) (λ r. this b i k z (ask-eq r.1))
+        (on.back n (Ask_cell b i k z d) p q);
     once = λ w l n b i y z d k p q r o.
         ⊎_elim (λ c. ⊎_elim (λ v. h.once whole l n b i y z d k c.0 v.0 c.1 v.1) (λ v. absurd (ask-put v.1)) (on.back n (Put_cell b i z k) q o))
         (λ c. absurd (ask-put c.1)) (on.back l (Put_cell b i y d) p r);
@@ -106,7 +100,8 @@ module _ (s : State) (before : (n : ℕ) → has s.arrived n ≡ true → n < le
       here = inr (u, e, was, (length s.sent, get-last s.sent (Carry f x u)))
 
       this : (b i k z : ℕ) → (a ≡ b) × (j ≡ i) × (f ≡ k) × (x ≡ z) → IsServed (after_delivery s m (Went (sends_only s.world (Carry f x u ∷ [])))) b i k z
-      this b i k z r = subst (λ n. IsServed v n i k z) r.0 (subst (λ n. IsServed v a n k z) r.1 (subst (λ n. IsServed v a j n z) r.2 (subst (λ n. IsServed v a j f n) r.3 here)))
+      this b i k z r = subst (λ n. IsServed v n i k z) r.0 (subst (λ n. IsServed v a n k z) r.1
+          (subst (λ n. IsServed v a j n z) r.2 (subst (λ n. IsServed v a j f n) r.3 here)))
 
   module _ (a j : ℕ) (rs : List Reader) (was : cell_at s.world a j ≡ Some (Empty rs)) (c : Cell) (ms : List Message) where
     -- the state with the cell changed, and these messages sent
@@ -118,7 +113,8 @@ module _ (s : State) (before : (n : ℕ) → has s.arrived n ≡ true → n < le
     word-stays b i v t e = ⊎_elim (λ q. absurd (same q)) (λ q. q) (cell-other s.world a j c (Empty rs) was b i (Filled v t) e)
       where
         same : (a ≡ b) × (j ≡ i) → ⊥
-        same q = filled-empty (some-eq (sym e ∙ subst (λ n. cell_at s.world n i ≡ Some (Empty rs)) q.0 (subst (λ n. cell_at s.world a n ≡ Some (Empty rs)) q.1 was)))
+        same q = filled-empty (some-eq (sym e ∙ subst (λ n. cell_at s.world n i ≡ Some (Empty rs)) q.0
+            (subst (λ n. cell_at s.world a n ≡ Some (Empty rs)) q.1 was)))
 
     module _ (x : Message) (is_sent : slice_get s.sent m ≡ Some x) where
       on : Continues s after_change (ThisNew m x)
@@ -130,17 +126,21 @@ module _ (s : State) (before : (n : ℕ) → has s.arrived n ≡ true → n < le
         where
           same : (a ≡ b) × (j ≡ i) → IsServed after_change b i f y
           same q =
-              let e = empty-eq (some-eq (sym r.1 ∙ subst (λ n. cell_at s.world n i ≡ Some (Empty rs)) q.0 (subst (λ n. cell_at s.world a n ≡ Some (Empty rs)) q.1 was))) in
-              subst (λ n. IsServed after_change n i f y) q.0 (subst (λ n. IsServed after_change a n f y) q.1 (here f y (subst (λ l. In {X = ℕ × ℕ} (f, y) l) e r.2)))
+              let e = empty-eq (some-eq (sym r.1 ∙ subst (λ n. cell_at s.world n i ≡ Some (Empty rs)) q.0
+              (subst (λ n. cell_at s.world a n ≡ Some (Empty rs)) q.1 was))) in
+              subst (λ n. IsServed after_change n i f y) q.0 (subst (λ n. IsServed after_change a n f y) q.1
+              (here f y (subst (λ l. In {X = ℕ × ℕ} (f, y) l) e r.2)))
       served-later here b i f y (inr r) = inr (r.0, r.1, word-stays b i r.0 r.1 r.2, (r.3.0, on.sent r.3.0 (Carry f y r.0) r.3.1))
 
   -- a fetch of an empty cell
   pub filled-deferred : (a j f x t : ℕ) (rs : List Reader) → slice_get s.sent m ≡ Some (Ask_cell a j f x t) → cell_at s.world a j ≡ Some (Empty rs)
       → IsFilledState (after_delivery s m (Went (changes (with_new_cell s.world a j (Empty (rs ++ (f, x) ∷ []))))))
   filled-deferred a j f x t rs is_sent was = record {
-    stored = λ w n b i y d p q. ⊎_elim (λ r. word-stays a j rs was c [] b i y d (h.stored whole n b i y d r.0 r.1)) (λ r. absurd (ask-put r.1)) (go.back n (Put_cell b i y d) p q);
+    stored = λ w n b i y d p q. ⊎_elim (λ r. word-stays a j rs was c [] b i y d (h.stored whole n b i y d r.0 r.1)) (λ r. absurd (ask-put r.1))
+        (go.back n (Put_cell b i y d) p q);
     fetched = λ w n b i k z d p q.
-        ⊎_elim (λ r. served-later a j rs was c [] (Ask_cell a j f x t) is_sent (λ e y o. inl (rs ++ (f, x) ∷ [], here, left-in (e, y) rs ((f, x) ∷ []) o)) b i k z
+        ⊎_elim (λ r. served-later a j rs was c [] (Ask_cell a j f x t) is_sent (λ e y o. inl (rs ++ (f, x) ∷ [], here, left-in (e, y) rs ((f, x) ∷ []) o)) b
+        i k z
         (h.fetched whole n b i k z d r.0 r.1)) (λ r. this b i k z (ask-eq r.1)) (go.back n (Ask_cell b i k z d) p q);
     once = λ w l n b i y z d k p q r o.
         ⊎_elim (λ e. ⊎_elim (λ v. h.once whole l n b i y z d k e.0 v.0 e.1 v.1) (λ v. absurd (ask-put v.1)) (go.back n (Put_cell b i z k) q o))
@@ -164,7 +164,8 @@ module _ (s : State) (before : (n : ℕ) → has s.arrived n ≡ true → n < le
 
       this : (b i k z : ℕ) → (a ≡ b) × (j ≡ i) × (f ≡ k) × (x ≡ z)
           → IsServed (after_delivery s m (Went (changes (with_new_cell s.world a j (Empty (rs ++ (f, x) ∷ [])))))) b i k z
-      this b i k z r = subst (λ n. IsServed v n i k z) r.0 (subst (λ n. IsServed v a n k z) r.1 (subst (λ n. IsServed v a j n z) r.2 (subst (λ n. IsServed v a j f n) r.3 new)))
+      this b i k z r = subst (λ n. IsServed v n i k z) r.0 (subst (λ n. IsServed v a n k z) r.1
+          (subst (λ n. IsServed v a j n z) r.2 (subst (λ n. IsServed v a j f n) r.3 new)))
 
   -- a store into an empty cell
   pub filled-stored : (a j u t : ℕ) (rs : List Reader) → slice_get s.sent m ≡ Some (Put_cell a j u t) → cell_at s.world a j ≡ Some (Empty rs)
@@ -176,8 +177,10 @@ module _ (s : State) (before : (n : ℕ) → has s.arrived n ≡ true → n < le
         ⊎_elim (λ r. served-later a j rs was (Filled u t) (answers u rs) (Put_cell a j u t) is_sent waiting b i k z (h.fetched whole n b i k z d r.0 r.1))
         (λ r. absurd (ask-put (sym r.1))) (go.back n (Ask_cell b i k z d) p q);
     once = λ w l n b i y z d k p q r o.
-        ⊎_elim (λ e. ⊎_elim (λ v. h.once whole l n b i y z d k e.0 v.0 e.1 v.1) (λ v. absurd (twice l b i y d (put-eq v.1) e.0 e.1)) (go.back n (Put_cell b i z k) q o))
-        (λ e. ⊎_elim (λ v. absurd (twice n b i z k (put-eq e.1) v.0 v.1)) (λ v. sym e.0 ∙ v.0) (go.back n (Put_cell b i z k) q o)) (go.back l (Put_cell b i y d) p r);
+        ⊎_elim (λ e. ⊎_elim (λ v. h.once whole l n b i y z d k e.0 v.0 e.1 v.1) (λ v. absurd (twice l b i y d (put-eq v.1) e.0 e.1))
+        (go.back n (Put_cell b i z k) q o))
+        (λ e. ⊎_elim (λ v. absurd (twice n b i z k (put-eq e.1) v.0 v.1)) (λ v. sym e.0 ∙ v.0) (go.back n (Put_cell b i z k) q o))
+        (go.back l (Put_cell b i y d) p r);
   }
     where
       v : State
@@ -194,8 +197,15 @@ module _ (s : State) (before : (n : ℕ) → has s.arrived n ≡ true → n < le
           subst (λ n. cell_at v.world n i ≡ Some (Filled y d)) r.0 (subst (λ n. cell_at v.world a n ≡ Some (Filled y d)) r.1
           (subst (λ n. cell_at v.world a j ≡ Some (Filled n d)) r.2 (subst (λ n. cell_at v.world a j ≡ Some (Filled u n)) r.3 here)))
 
-      waiting : (f y : ℕ) → In {X = ℕ × ℕ} (f, y) rs → IsServed (after_delivery s m (Went (sends_only (with_new_cell s.world a j (Filled u t)) (answers u rs)))) a j f y
-      waiting f y o = inr (u, t, here, in-get (Carry f y u) (s.sent ++ answers u rs) (right-in (Carry f y u) s.sent (answers u rs) (map-in (λ r. Carry r.0 r.1 u) (f, y) rs o)))
+      waiting : (f y : ℕ) → In {X = ℕ × ℕ} (f, y) rs → IsServed (after_delivery s m
+          (Went (sends_only (with_new_cell s.world a j (Filled u t)) (answers u rs)))) a j f y
+      waiting f y o = inr (
+        u,
+        t,
+        here,
+        in-get (Carry f y u) (s.sent ++ answers u rs)
+            (right-in (Carry f y u) s.sent (answers u rs) (map-in (λ r. Carry r.0 r.1 u) (f, y) rs o)),
+      )
 
       twice : (n b i y d : ℕ) {w e : ℕ} → (a ≡ b) × (j ≡ i) × (u ≡ w) × (t ≡ e) → slice_get s.sent n ≡ Some (Put_cell b i y d) → has s.arrived n ≡ true → ⊥
       twice n b i y d r e q =

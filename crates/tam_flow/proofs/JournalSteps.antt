@@ -1,5 +1,5 @@
 -- What holds at the beginning, and what each run and each delivery keeps, holds behind each legal journal.
-use Rattle.std.proofs.Common.{◌≡◌, ℕ, ◌^◌, ◌<◌, Bool, true, false, not, List, [], ◌∷◌, Option, Some, None, is_none, length, nat_lt, slice_get, refl, sym, ◌∙◌, arith}
+use Rattle.std.proofs.Common.{◌≡◌, ℕ, ◌^◌, ◌<◌, Bool, true, false, not, List, [], ◌∷◌, Option, Some, None, is_none, length, nat_lt, slice_get, refl, sym, arith}
 use Rattle.std.proofs.Common.{true≢false}
 use Rattle.tam_word.specs.Lists.{has}
 use Rattle.tam_word.proofs.Tests.{and-left, and-right, not-true}
@@ -30,7 +30,8 @@ module _ (g : Graph) (args : List ℕ) (accepted : IsAccepted g) (all : Partitio
         → Q (after_delivery s m (delivered s.world x))
 
   -- so by each event that may follow
-  stepped-event : (Q : State → Type 0) → IsStepped Q → (s : State) → IsLegalState s → Q s → (e : Event) → may_follow g all s e ≡ true → Q (after_event g all s e)
+  stepped-event : (Q : State → Type 0) → IsStepped Q → (s : State) → IsLegalState s → Q s → (e : Event) → may_follow g all s e ≡ true
+      → Q (after_event g all s e)
   stepped-event Q steps s state h (Run i b c) may =
       steps.runs s state (no-fault g args accepted s.fault (and-left (is_none s.fault) (may_run g all s i b c) may)) h i b c
       (runnable g all s i b c (and-right (is_none s.fault) (may_run g all s i b c) may))

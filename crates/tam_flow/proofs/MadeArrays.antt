@@ -1,5 +1,6 @@
 -- A wish for an array that arrived has made one, of its length, and was answered; no two arrays were made by one alloc.
-use Rattle.std.proofs.Common.{◌≡◌, ℕ, ◌<◌, true, false, ◌==◌, Bool, List, [], ◌∷◌, ◌++◌, replicate, Some, None, length, slice_get, slice_set, unwrap_or, refl, sym, ap, ◌∙◌}
+use Rattle.std.proofs.Common.{◌≡◌, ℕ, ◌<◌, true, false, ◌==◌, Bool, List, [], ◌∷◌, ◌++◌, replicate, Some, length, slice_get, slice_set, unwrap_or}
+use Rattle.std.proofs.Common.{refl, sym, ap, ◌∙◌}
 use Rattle.std.proofs.Common.{arith, subst, inl, inr, ◌⊎◌, ⊎_elim, true≢false}
 use Rattle.std.proofs.lemmas.List.{length-append, length-replicate, length-set}
 use Rattle.tam_word.specs.Lists.{has}
@@ -13,8 +14,9 @@ use Rattle.tam_split.specs.GraphPartitions.{Partitions, are_valid}
 use Rattle.tam_msgs.specs.declared.message.Message.{Message}
 use Rattle.tam_msgs.specs.declared.message.Message.TheVariants.{Word as Carry, Frame as Begin, Cells as Make, Fetch as Ask_cell, Store as Put_cell}
 use Rattle.tam_msgs.specs.Messages.{outside, answers}
-use Rattle.tam_istr.specs.Cells.{Cell, Empty, Filled, with_array, with_cell}
-use Rattle.tam_flow.specs.Worlds.{World, Effect, Delivery, Went, Printed, Faulted, changes, sends_only, its_code, words_of, got, all_got, merges_of, firing_of, fired_with, fired, delivered}
+use Rattle.tam_istr.specs.Cells.{Cell, Empty, Filled, with_array}
+use Rattle.tam_flow.specs.Worlds.{World, Delivery, Went, Printed, Faulted, changes, sends_only, its_code, words_of, got, all_got, merges_of}
+use Rattle.tam_flow.specs.Worlds.{firing_of, fired_with, fired, delivered}
 use Rattle.tam_flow.specs.Journals.{State, Event, Run, after_delivery, after_event, block_of_act, state_after}
 use Rattle.tam_flow.specs.JournalLaws.{IsJournal}
 use Rattle.tam_flow.specs.Told.{or_maker}
@@ -27,8 +29,7 @@ use Rattle.tam_flow.proofs.Suiting.{one-make}
 use Rattle.tam_flow.proofs.SoundStates.{IsRunnable}
 use Rattle.tam_flow.proofs.RunSteps.{KeptByFirings, run-kept}
 use Rattle.tam_flow.proofs.Accesses.{with_new_cell, FetchCases, StoreCases, fetch-cases, store-cases}
-use Rattle.tam_flow.proofs.JournalSteps.{IsLegalState}
-use Rattle.tam_flow.proofs.WordSteps.{Continues, NoneNew, ThisNew, continues-run, continues-delivery, IsWordedState, KeptByEvents, events-keep}
+use Rattle.tam_flow.proofs.WordSteps.{Continues, NoneNew, ThisNew, continues-run, continues-delivery, IsWordedState, events-keep}
 
 -- ---- a run makes no array
 
@@ -95,9 +96,13 @@ makers-same : (s v : State) (New : ℕ → Message → Type 0) → Continues s v
 makers-same s v New on none same as_long h = record {
   made = λ n k f x e q. ⊎_elim (λ r. later k f x (h.made n k f x r.0 r.1)) (λ r. absurd (none n k f x r)) (on.back n (Make k f x) e q);
   makers = λ a l.
-      let r = h.makers a (subst (λ ms. a < length ms) same l) in
-      (r.0, r.1, subst (λ ms. slice_get v.sent r.0 ≡ Some (Make r.1 (or_maker (slice_get ms a)).0 (or_maker (slice_get ms a)).1)) (sym same)
-      (on.sent r.0 (Make r.1 (maker_of s.world a).0 (maker_of s.world a).1) r.2), on.arrived r.0 r.3);
+      let r = h.makers a (subst (λ ms. a < length ms) same l) in (
+        r.0,
+        r.1,
+        subst (λ ms. slice_get v.sent r.0 ≡ Some (Make r.1 (or_maker (slice_get ms a)).0 (or_maker (slice_get ms a)).1)) (sym same)
+            (on.sent r.0 (Make r.1 (maker_of s.world a).0 (maker_of s.world a).1) r.2),
+        on.arrived r.0 r.3,
+      );
   differ = λ a b l m e. h.differ a b (subst (λ ms. a < length ms) same l) (subst (λ ms. b < length ms) same m)
       (subst (λ ms. or_maker (slice_get ms a) ≡ or_maker (slice_get ms b)) same e);
 }
@@ -148,7 +153,8 @@ module _ (g : Graph) (args : List ℕ) (accepted : IsAccepted g) (all : Partitio
       made = λ k l e y q r. ⊎_elim (λ p. old l e y (h.made k l e y p.0 p.1)) (λ p. now l e y (make-eq p.1)) (on.back k (Make l e y) q r);
       makers = λ a l. ⊎_elim (of_old a) (of_new a) (before a l);
       differ = λ a b l k e. ⊎_elim
-          (λ p. ⊎_elim (λ q. h.differ a b p q (sym (grows.maker a p) ∙ e ∙ grows.maker b q)) (λ q. absurd (fresh a p (sym (grows.maker a p) ∙ e ∙ of_last b q))) (before b k))
+          (λ p. ⊎_elim (λ q. h.differ a b p q (sym (grows.maker a p) ∙ e ∙ grows.maker b q))
+          (λ q. absurd (fresh a p (sym (grows.maker a p) ∙ e ∙ of_last b q))) (before b k))
           (λ p. ⊎_elim (λ q. absurd (fresh b q (sym (grows.maker b q) ∙ sym e ∙ of_last a p))) (λ q. p ∙ sym q) (before b k)) (before a l);
     }
       where
@@ -186,24 +192,37 @@ module _ (g : Graph) (args : List ℕ) (accepted : IsAccepted g) (all : Partitio
           of_last (length s.world.makers) refl,
           ap (λ k. length (cells_at with_one k)) (sym as_many)
               ∙ ap (λ o. length (unwrap_or o [])) (get-last s.world.arrays (replicate n (Empty []))) ∙ length-replicate n (Empty []),
-          (length s.sent, subst (λ k. slice_get (s.sent ++ Carry f x (length s.world.arrays) ∷ []) (length s.sent) ≡ Some (Carry f x k)) as_many
-              (get-last s.sent (Carry f x (length s.world.arrays)))),
+          (
+            length s.sent,
+            subst (λ k. slice_get (s.sent ++ Carry f x (length s.world.arrays) ∷ []) (length s.sent) ≡ Some (Carry f x k)) as_many
+                (get-last s.sent (Carry f x (length s.world.arrays))),
+          ),
         )
 
         now : (l e y : ℕ) → (n ≡ l) × (f ≡ e) × (x ≡ y) → IsMadeFor after_make l e y
-        now l e y p = subst (λ k. IsMadeFor after_make k e y) p.0 (subst (λ k. IsMadeFor after_make n k y) p.1 (subst (λ k. IsMadeFor after_make n f k) p.2 here))
+        now l e y p = subst (λ k. IsMadeFor after_make k e y) p.0 (subst (λ k. IsMadeFor after_make n k y) p.1
+            (subst (λ k. IsMadeFor after_make n f k) p.2 here))
 
         of_old : (a : ℕ) → a < length s.world.makers
             → (k l : ℕ) × (slice_get after_make.sent k ≡ Some (Make l (maker_of with_one a).0 (maker_of with_one a).1)) × (has after_make.arrived k ≡ true)
         of_old a p =
-            let r = h.makers a p in
-            (r.0, r.1, subst (λ o. slice_get after_make.sent r.0 ≡ Some (Make r.1 o.0 o.1)) (sym (grows.maker a p))
-            (on.sent r.0 (Make r.1 (maker_of s.world a).0 (maker_of s.world a).1) r.2), on.arrived r.0 r.3)
+            let r = h.makers a p in (
+              r.0,
+              r.1,
+              subst (λ o. slice_get after_make.sent r.0 ≡ Some (Make r.1 o.0 o.1)) (sym (grows.maker a p))
+                  (on.sent r.0 (Make r.1 (maker_of s.world a).0 (maker_of s.world a).1) r.2),
+              on.arrived r.0 r.3,
+            )
 
         of_new : (a : ℕ) → a ≡ length s.world.makers
             → (k l : ℕ) × (slice_get after_make.sent k ≡ Some (Make l (maker_of with_one a).0 (maker_of with_one a).1)) × (has after_make.arrived k ≡ true)
-        of_new a e =
-            (m, n, subst (λ o. slice_get after_make.sent m ≡ Some (Make n o.0 o.1)) (sym (of_last a e)) (on.sent m (Make n f x) is_sent), arrived-now m s.arrived)
+        of_new a e = (
+          m,
+          n,
+          subst (λ o. slice_get after_make.sent m ≡ Some (Make n o.0 o.1)) (sym (of_last a e)) (on.sent m (Make n f x) is_sent),
+          arrived-now m
+              s.arrived,
+        )
 
         fresh : (a : ℕ) → a < length s.world.makers → maker_of s.world a ≡ (f, x) → ⊥
         fresh a l e =
@@ -226,8 +245,10 @@ module _ (g : Graph) (args : List ℕ) (accepted : IsAccepted g) (all : Partitio
     where
       go : (t : Bool) → (f == outside) ≡ t → ((d : Delivery) → Continues s (after_delivery s m d) (ThisNew m (Carry f y u)))
           → IsMakerState (after_delivery s m (delivered s.world (Carry f y u)))
-      go true p on = rw (delivered, p) (makers-same s (after_delivery s m (Printed y u)) (ThisNew m (Carry f y u)) (on (Printed y u)) (λ n k e z r. carry-make r.1) refl (λ a. refl) h)
-      go false p on = rw (delivered, p) (makers-same s (after_delivery s m (Went (changes (got s.world f y u)))) (ThisNew m (Carry f y u)) (on (Went (changes (got s.world f y u))))
+      go true p on = rw (delivered, p) (makers-same s (after_delivery s m (Printed y u)) (ThisNew m (Carry f y u)) (on (Printed y u))
+          (λ n k e z r. carry-make r.1) refl (λ a. refl) h)
+      go false p on = rw (delivered, p) (makers-same s (after_delivery s m (Went (changes (got s.world f y u)))) (ThisNew m (Carry f y u))
+          (on (Went (changes (got s.world f y u))))
           (λ n k e z r. carry-make r.1) refl (λ a. refl) h)
   makers-delivered m (Begin c f y) is_sent new =
       makers-same s (after_delivery s m (delivered s.world (Begin c f y))) (ThisNew m (Begin c f y))
@@ -237,7 +258,8 @@ module _ (g : Graph) (args : List ℕ) (accepted : IsAccepted g) (all : Partitio
     where
       same : (d : Delivery) → (after_delivery s m d).world.makers ≡ s.world.makers
           → ((b : ℕ) → length (cells_at (after_delivery s m d).world b) ≡ length (cells_at s.world b)) → IsMakerState (after_delivery s m d)
-      same d k l = makers-same s (after_delivery s m d) (ThisNew m (Ask_cell a j f y t)) (continues-delivery s worded.words.before m (Ask_cell a j f y t) is_sent d)
+      same d k l = makers-same s (after_delivery s m d) (ThisNew m (Ask_cell a j f y t))
+          (continues-delivery s worded.words.before m (Ask_cell a j f y t) is_sent d)
           (λ n k e z r. ask-make r.1) k l h
 
       go : FetchCases s.world a j f y (delivered s.world (Ask_cell a j f y t)) → IsMakerState (after_delivery s m (delivered s.world (Ask_cell a j f y t)))

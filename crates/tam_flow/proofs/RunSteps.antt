@@ -1,11 +1,11 @@
 -- What each firing of a run keeps the whole run keeps; a node that fires in a run hadn't fired, and has fired after it.
-use Rattle.std.proofs.Common.{◌≡◌, ℕ, ◌<◌, Bool, true, false, ◌==◌, ◌&&◌, List, [], ◌∷◌, ◌++◌, length, refl, sym, ap, ◌∙◌, subst, inl, inr, ⊎_elim, true≢false}
+use Rattle.std.proofs.Common.{◌≡◌, ℕ, ◌<◌, Bool, true, false, ◌==◌, ◌&&◌, List, [], ◌∷◌, ◌++◌, length, refl, sym, ◌∙◌, subst, inl, inr, ⊎_elim, true≢false}
 use Rattle.std.specs.List.{AllByRecursion}
 use Rattle.tam_word.specs.Lists.{any_of}
 use Rattle.tam_word.proofs.Each.{all-more, each-in}
 use Rattle.tam_word.proofs.Members.{In}
 use Rattle.tam_word.proofs.Tests.{true-both, self-eq}
-use Rattle.tam_graph.specs.Graphs.{Graph, code_of, kind_at, block_at}
+use Rattle.tam_graph.specs.Graphs.{Graph, code_of, block_at}
 use Rattle.tam_graph.specs.Accepted.{IsAccepted}
 use Rattle.tam_split.specs.Blocks.{BlockGraph, block_graph, vertex_at}
 use Rattle.tam_split.specs.Partitions.{class_at}
@@ -15,12 +15,12 @@ use Rattle.tam_flow.specs.Worlds.{World, Effect, activation_at, its_code, fired}
 use Rattle.tam_flow.specs.Journals.{State, Run, fire_each, has_run, class_fired, block_of_act, parts_of_act, after_event}
 use Rattle.tam_flow.specs.Told.{path_of}
 use Rattle.tam_flow.specs.Reached.{IsThere}
-use Rattle.tam_flow.proofs.Growing.{Grows, grows-same}
+use Rattle.tam_flow.proofs.Growing.{grows-same}
 use Rattle.tam_flow.proofs.Deliveries.{IsSoundEffect}
 use Rattle.tam_flow.proofs.FiringReasons.{MayFire}
 use Rattle.tam_flow.proofs.ActivationCounts.{size, size-each, then_one}
 use Rattle.tam_flow.proofs.ClassRuns.{IsReady, sound-one, order-each}
-use Rattle.tam_flow.proofs.Pairs.{NoTwice, fires-once}
+use Rattle.tam_flow.proofs.Pairs.{NoTwice}
 use Rattle.tam_flow.proofs.Acyclic.{order-distinct, block-acyclic}
 use Rattle.tam_flow.proofs.SoundStates.{IsSoundState, IsRunnable, run-block, run-within, order-ready, run-effect}
 use Rattle.tam_flow.proofs.Senders.{done_after, done-in}

@@ -1,42 +1,36 @@
 -- Where words come from, after a delivery: so it is behind each journal. One word at most is sent to each node, and before it arrives the node has none.
-use Rattle.std.proofs.Common.{◌≡◌, ◌≢◌, ℕ, ◌^◌, ◌<◌, Bool, true, false, ◌==◌, ◌&&◌, not, List, [], ◌∷◌, ◌++◌, Option, Some, None, is_none, length, nat_lt, slice_get}
+use Rattle.std.proofs.Common.{◌≡◌, ℕ, ◌^◌, ◌<◌, true, false, ◌==◌, List, [], ◌∷◌, ◌++◌, Some, length, slice_get}
 use Rattle.std.proofs.Common.{refl, sym, ap, ◌∙◌, arith, subst, inl, inr, ◌⊎◌, ⊎_elim, true≢false}
 use Rattle.std.proofs.lemmas.List.{length-append}
 use Rattle.std.specs.List.{AllByRecursion}
 use Rattle.tam_word.specs.Lists.{has}
-use Rattle.tam_word.proofs.Each.{all-more, all-append, all-map, all-at_place, get-left}
-use Rattle.tam_word.proofs.Tests.{and-left, and-right, not-true, differs-number, number-differs}
+use Rattle.tam_word.proofs.Each.{all-more, all-append, all-at_place, get-left}
 use Rattle.tam_graph.specs.Graphs.{Graph, code_of, kind_at, is_split}
 use Rattle.tam_graph.specs.Accepted.{IsAccepted}
 use Rattle.tam_split.specs.GraphPartitions.{Partitions, are_valid}
 use Rattle.tam_msgs.specs.declared.message.Message.{Message}
-use Rattle.tam_msgs.specs.declared.message.Message.TheVariants.{Word as Carry, Frame as Begin, Cells as Make, Fetch as Ask_cell, Store as Put_cell}
-use Rattle.tam_msgs.specs.Messages.{outside, answers}
-use Rattle.tam_istr.specs.Cells.{Cell, Reader, Empty, Filled}
-use Rattle.tam_flow.specs.Worlds.{World, Effect, Delivery, Went, Printed, Faulted, Fault, sends_only, changes, got, delivered, word_of}
-use Rattle.tam_flow.specs.Journals.{State, Event, Run, Deliver, initial, or_message, after_delivery, deliver_all, after_event, may_run, may_arrive, may_follow}
-use Rattle.tam_flow.specs.Journals.{is_legal_from, state_from, state_after}
-use Rattle.tam_flow.specs.JournalLaws.{IsJournal}
-use Rattle.tam_flow.specs.Reached.{IsThere, kind_of, Has, HasArrived, cell_at}
-use Rattle.tam_flow.proofs.ActivationLists.{word-shape}
-use Rattle.tam_flow.proofs.ActivationCounts.{size-from}
+use Rattle.tam_msgs.specs.declared.message.Message.TheVariants.{Word as Carry, Fetch as Ask_cell}
+use Rattle.tam_msgs.specs.Messages.{outside}
+use Rattle.tam_istr.specs.Cells.{Reader, Empty, Filled}
+use Rattle.tam_flow.specs.Worlds.{World, Effect, Went, sends_only, changes, got, word_of}
+use Rattle.tam_flow.specs.Journals.{State, after_delivery}
+use Rattle.tam_flow.specs.Reached.{IsThere, kind_of, HasArrived, cell_at}
 use Rattle.tam_flow.proofs.Arriving.{arrived-cases}
-use Rattle.tam_flow.proofs.CellChanges.{none-some, some-eq, push-cases, all-same, cell-array}
+use Rattle.tam_flow.proofs.CellChanges.{some-eq}
 use Rattle.tam_flow.proofs.DeliveryChanges.{changed-cell}
-use Rattle.tam_flow.proofs.Deliveries.{IsSoundEffect, IsSoundDelivery, not-outside, deliver, some-below}
+use Rattle.tam_flow.proofs.Deliveries.{not-outside, some-below}
 use Rattle.tam_flow.proofs.Growing.{Grows, grows-got, grows-arrays}
 use Rattle.tam_flow.proofs.Justified.{IsMessage}
 use Rattle.tam_flow.proofs.Pairs.{Pairs, pairs-append, pairs-at}
-use Rattle.tam_flow.proofs.SoundStates.{IsSoundState, runnable, no-fault, opened, sound-event, sound-initial}
-use Rattle.tam_flow.proofs.SentOnce.{HasFired, IsOnceState, arrived-more, arrived-now, once-initial}
-use Rattle.tam_flow.proofs.DeliveredOnce.{one-wish, once-event}
-use Rattle.tam_flow.proofs.WordSenders.{IsFor, WordsApart, SendsTo, for-eq}
+use Rattle.tam_flow.proofs.SoundStates.{IsSoundState}
+use Rattle.tam_flow.proofs.SentOnce.{IsOnceState, arrived-more, arrived-now}
+use Rattle.tam_flow.proofs.WordSenders.{IsFor, WordsApart, for-eq}
 use Rattle.tam_flow.proofs.Givers.{is_received}
 use Rattle.tam_flow.proofs.Kept.{word-act}
-use Rattle.tam_flow.proofs.ComingWords.{got-cases, got-here, begun-words}
-use Rattle.tam_flow.proofs.WordSources.{IsAskOf, HasAsked, WordCause, IsCaused, ReadersApart, IsWaiting, WaitHere, IsWordState, ask-kind, sends-uncut, one-ask}
-use Rattle.tam_flow.proofs.WordSources.{cause-takes, caused-later, words-initial, words-run}
-use Rattle.tam_flow.proofs.Accesses.{with_new_cell, FetchCases, StoreCases, fetch-cases, store-cases}
+use Rattle.tam_flow.proofs.ComingWords.{got-cases, got-here}
+use Rattle.tam_flow.proofs.WordSources.{IsAskOf, WordCause, IsCaused, ReadersApart, IsWaiting, WaitHere, IsWordState, ask-kind, sends-uncut, one-ask}
+use Rattle.tam_flow.proofs.WordSources.{caused-later}
+use Rattle.tam_flow.proofs.Accesses.{with_new_cell}
 
 -- a word is one of its receiver and its word
 carry-eq : {f x u e y v : ℕ} → Carry f x u ≡ Carry e y v → (f ≡ e) × (x ≡ y) × (u ≡ v)
@@ -81,7 +75,8 @@ module _ (g : Graph) (args : List ℕ) (accepted : IsAccepted g) (all : Partitio
       sent more n o h = get-left s.sent more n (some-below s.sent n h) ∙ h
 
       -- what has arrived is this message, or had arrived
-      pub arrives : (more : List Message) (n : ℕ) (o : Message) → slice_get (s.sent ++ more) n ≡ Some o → has (m ∷ s.arrived) n ≡ true → (x ≡ o) ⊎ HasArrived s o
+      pub arrives : (more : List Message) (n : ℕ) (o : Message) → slice_get (s.sent ++ more) n ≡ Some o → has (m ∷ s.arrived) n ≡ true → (x ≡ o)
+          ⊎ HasArrived s o
       arrives more n o e h = ⊎_elim this old (arrived-cases m s.arrived n h)
         where
           this : m ≡ n → (x ≡ o) ⊎ HasArrived s o
@@ -141,7 +136,8 @@ module _ (g : Graph) (args : List ℕ) (accepted : IsAccepted g) (all : Partitio
             (all-more (IsCaused g all s) (IsCaused g all (after_delivery s m (Went e)))
             (caused-later g args accepted all s sound once (after_delivery s m (Went e)) grows (sent e.sends) (arrived-more m s.arrived) (λ i b c h. h))
             s.sent done.causes)
-            (all-more (IsFresh (after_delivery s m (Went e))) (IsCaused g all (after_delivery s m (Went e))) (λ o k f y inside q. let r = k f y inside q in (r.0, r.1)) e.sends fresh);
+            (all-more (IsFresh (after_delivery s m (Went e))) (IsCaused g all (after_delivery s m (Went e)))
+            (λ o k f y inside q. let r = k f y inside q in (r.0, r.1)) e.sends fresh);
         words = words;
         carried = carried;
         waits = waits;
@@ -152,7 +148,8 @@ module _ (g : Graph) (args : List ℕ) (accepted : IsAccepted g) (all : Partitio
           far [] o h = tt
           far (p ∷ ps) o h = ((λ f y inside a b. (h f y inside b).0 a), far ps o (λ f y inside b. (h f y inside b).1))
 
-          swap : (ps os : List Message) → AllByRecursion (λ o. AllByRecursion (λ p. WordsApart p o) ps) os → AllByRecursion (λ p. AllByRecursion (WordsApart p) os) ps
+          swap : (ps os : List Message) → AllByRecursion (λ o. AllByRecursion (λ p. WordsApart p o) ps) os
+              → AllByRecursion (λ p. AllByRecursion (WordsApart p) os) ps
           swap [] os h = tt
           swap (p ∷ ps) os h = (
             all-more (λ o. AllByRecursion (λ q. WordsApart q o) (p ∷ ps)) (WordsApart p) (λ o k. k.0) os h,
@@ -163,7 +160,8 @@ module _ (g : Graph) (args : List ℕ) (accepted : IsAccepted g) (all : Partitio
       module _ (e : Effect) (grows : Grows s.world e.world) (same : (f y : ℕ) → word_of e.world f y ≡ word_of s.world f y)
           (no_word : (f y u : ℕ) → x ≡ Carry f y u → (f == outside) ≡ false → ⊥) where
         -- each word is one that arrived
-        pub words-same : (f y u : ℕ) → word_of e.world f y ≡ u ∷ [] → is_received (kind_of g e.world f y) ≡ true → HasArrived (after_delivery s m (Went e)) (Carry f y u)
+        pub words-same : (f y u : ℕ) → word_of e.world f y ≡ u ∷ [] → is_received (kind_of g e.world f y) ≡ true
+            → HasArrived (after_delivery s m (Went e)) (Carry f y u)
         words-same f y u h takes =
             let old : word_of s.world f y ≡ u ∷ [] = sym (same f y) ∙ h in
             let t = word-act s.world f y u old in
@@ -187,7 +185,8 @@ module _ (g : Graph) (args : List ℕ) (accepted : IsAccepted g) (all : Partitio
       )
 
       -- who waits still does where the cells are the same or new, and nothing is sent to those who wait
-      pub waits-same : (e : Effect) → ((a j : ℕ) (rs : List Reader) → cell_at e.world a j ≡ Some (Empty rs) → (rs ≡ []) ⊎ (cell_at s.world a j ≡ Some (Empty rs)))
+      pub waits-same : (e : Effect) → ((a j : ℕ) (rs : List Reader) → cell_at e.world a j ≡ Some (Empty rs) → (rs ≡ [])
+          ⊎ (cell_at s.world a j ≡ Some (Empty rs)))
           → ((a j : ℕ) (r : ℕ × ℕ) → IsWaiting s a j r → AllByRecursion (λ o. IsFor r.0 r.1 o → ⊥) e.sends) → WaitHere (after_delivery s m (Went e))
       waits-same e cells silent a j rs h = ⊎_elim (none rs) old (cells a j rs h)
         where
@@ -234,8 +233,10 @@ module _ (g : Graph) (args : List ℕ) (accepted : IsAccepted g) (all : Partitio
           fresh : IsFresh (after_delivery s m (Went (sends_only w (Carry f y u ∷ [])))) (Carry f y u)
           fresh e z inside q =
               let r = for-eq q.1 in
-              subst (λ k. IsThere w e × WordCause g all (after_delivery s m (Went (sends_only w (Carry f y u ∷ [])))) e k × AllByRecursion (λ p. IsFor e k p → ⊥) s.sent) r.1
-              (subst (λ k. IsThere w k × WordCause g all (after_delivery s m (Went (sends_only w (Carry f y u ∷ [])))) k y × AllByRecursion (λ p. IsFor k y p → ⊥) s.sent) r.0
+              subst (λ k. IsThere w e × WordCause g all (after_delivery s m (Went (sends_only w (Carry f y u ∷ [])))) e k
+              × AllByRecursion (λ p. IsFor e k p → ⊥) s.sent) r.1
+              (subst (λ k. IsThere w k × WordCause g all (after_delivery s m (Went (sends_only w (Carry f y u ∷ [])))) k y
+              × AllByRecursion (λ p. IsFor k y p → ⊥) s.sent) r.0
               base)
 
       -- a word
@@ -267,11 +268,14 @@ module _ (g : Graph) (args : List ℕ) (accepted : IsAccepted g) (all : Partitio
               now : (f ≡ e) × (y ≡ z) → HasArrived (after_delivery s m (Went (changes (got s.world f y u)))) (Carry e z t)
               now q =
                   let here : word_of (got s.world f y u) e z ≡ u ∷ [] =
-                  subst (λ n. word_of (got s.world f y u) n z ≡ u ∷ []) q.0 (subst (λ n. word_of (got s.world f y u) f n ≡ u ∷ []) q.1 (got-here s.world f y u there)) in
-                  let value : u ≡ t = one-eq (sym here ∙ h) in
-                  (m, sent [] m (Carry e z t) (subst (λ n. slice_get s.sent m ≡ Some (Carry e z n)) value
-                  (subst (λ n. slice_get s.sent m ≡ Some (Carry e n u)) q.1 (subst (λ n. slice_get s.sent m ≡ Some (Carry n y u)) q.0 is_sent_here))),
-                  arrived-now m s.arrived)
+                  subst (λ n. word_of (got s.world f y u) n z ≡ u ∷ []) q.0 (subst (λ n. word_of (got s.world f y u) f n ≡ u ∷ []) q.1
+                  (got-here s.world f y u there)) in
+                  let value : u ≡ t = one-eq (sym here ∙ h) in (
+                    m,
+                    sent [] m (Carry e z t) (subst (λ n. slice_get s.sent m ≡ Some (Carry e z n)) value
+                        (subst (λ n. slice_get s.sent m ≡ Some (Carry e n u)) q.1 (subst (λ n. slice_get s.sent m ≡ Some (Carry n y u)) q.0 is_sent_here))),
+                    arrived-now m s.arrived,
+                  )
 
           carried : (e z t : ℕ) → HasArrived (after_delivery s m (Went (changes (got s.world f y u)))) (Carry e z t) → (e == outside) ≡ false
               → word_of (got s.world f y u) e z ≡ t ∷ []
@@ -312,7 +316,8 @@ module _ (g : Graph) (args : List ℕ) (accepted : IsAccepted g) (all : Partitio
 
           stay : (b i : ℕ) (qs : List Reader) → AllByRecursion (IsWaiting s b i) qs
               → AllByRecursion (IsWaiting (after_delivery s m (Went (changes (with_new_cell s.world a j (Empty (rs ++ (f, y) ∷ [])))))) b i) qs
-          stay b i qs h = all-more (IsWaiting s b i) (IsWaiting (after_delivery s m (Went (changes (with_new_cell s.world a j (Empty (rs ++ (f, y) ∷ [])))))) b i)
+          stay b i qs h = all-more (IsWaiting s b i) (IsWaiting (after_delivery s m
+              (Went (changes (with_new_cell s.world a j (Empty (rs ++ (f, y) ∷ [])))))) b i)
               (λ r k. wait-later e b i r k tt) qs h
 
           here : Pairs ReadersApart (rs ++ (f, y) ∷ []) × AllByRecursion
@@ -320,10 +325,18 @@ module _ (g : Graph) (args : List ℕ) (accepted : IsAccepted g) (all : Partitio
           here =
               let old = done.waits a j rs was in (
                 pairs-append ReadersApart rs ((f, y) ∷ []) old.0 (tt, tt)
-                    (all-more (IsWaiting s a j) (λ r. AllByRecursion (ReadersApart r) ((f, y) ∷ [])) (λ r k. ((λ p q. (waits-on f y 0 a j r ask k).0 (0, same r p q)), tt)) rs old.1),
-                all-append (IsWaiting (after_delivery s m (Went e)) a j) rs ((f, y) ∷ []) (stay a j rs old.1)
-                    ((m, t, sent [] m (Ask_cell a j f y t) (is_sent ∙ ap Some this), arrived-now m s.arrived,
-                    all-append (λ o. IsFor f y o → ⊥) s.sent [] (unsent f y ask) tt), tt),
+                    (all-more (IsWaiting s a j) (λ r. AllByRecursion (ReadersApart r) ((f, y) ∷ []))
+                    (λ r k. ((λ p q. (waits-on f y 0 a j r ask k).0 (0, same r p q)), tt)) rs old.1),
+                all-append (IsWaiting (after_delivery s m (Went e)) a j) rs ((f, y) ∷ []) (stay a j rs old.1) (
+                  (
+                    m,
+                    t,
+                    sent [] m (Ask_cell a j f y t) (is_sent ∙ ap Some this),
+                    arrived-now m s.arrived,
+                    all-append (λ o. IsFor f y o → ⊥) s.sent [] (unsent f y ask) tt,
+                  ),
+                  tt,
+                ),
               )
             where
               same : (r : ℕ × ℕ) → r.0 ≡ f → r.1 ≡ y → Carry f y 0 ≡ Carry r.0 r.1 0
@@ -334,8 +347,10 @@ module _ (g : Graph) (args : List ℕ) (accepted : IsAccepted g) (all : Partitio
               (changed-cell s.world a j (Empty (rs ++ (f, y) ∷ [])) b i (Empty qs) h)
             where
               now : (a ≡ b) × (j ≡ i) × (Empty (rs ++ (f, y) ∷ []) ≡ Empty qs)
-                  → Pairs ReadersApart qs × AllByRecursion (IsWaiting (after_delivery s m (Went (changes (with_new_cell s.world a j (Empty (rs ++ (f, y) ∷ [])))))) b i) qs
+                  → Pairs ReadersApart qs × AllByRecursion (IsWaiting (after_delivery s m
+                  (Went (changes (with_new_cell s.world a j (Empty (rs ++ (f, y) ∷ [])))))) b i) qs
               now q =
                   subst (λ l. Pairs ReadersApart l × AllByRecursion (IsWaiting (after_delivery s m (Went e)) b i) l) (empty-eq q.2)
                   (subst (λ n. Pairs ReadersApart (rs ++ (f, y) ∷ []) × AllByRecursion (IsWaiting (after_delivery s m (Went e)) n i) (rs ++ (f, y) ∷ [])) q.0
-                  (subst (λ n. Pairs ReadersApart (rs ++ (f, y) ∷ []) × AllByRecursion (IsWaiting (after_delivery s m (Went e)) a n) (rs ++ (f, y) ∷ [])) q.1 here))
+                  (subst (λ n. Pairs ReadersApart (rs ++ (f, y) ∷ []) × AllByRecursion (IsWaiting (after_delivery s m (Went e)) a n) (rs ++ (f, y) ∷ []))
+                  q.1 here))

@@ -1,5 +1,6 @@
 -- Who sends a word: the receiver tells the activation and the node that sent it, and a run sends one word at most to a receiver.
-use Rattle.std.proofs.Common.{◌≡◌, ℕ, ◌<◌, ◌≤◌, Bool, true, false, ◌==◌, ◌&&◌, List, [], ◌∷◌, ◌++◌, Option, Some, None, slice_get, map, length, nat_lt, refl, sym, ap, ◌∙◌}
+use Rattle.std.proofs.Common.{◌≡◌, ℕ, ◌<◌, ◌≤◌, Bool, true, false, ◌==◌, ◌&&◌, List, [], ◌∷◌, Option, Some, None, slice_get, map, length, nat_lt}
+use Rattle.std.proofs.Common.{refl, sym, ap, ◌∙◌}
 use Rattle.std.proofs.Common.{arith, subst, inl, inr, ◌⊎◌, true≢false}
 use Rattle.std.proofs.lemmas.List.{length-map}
 use Rattle.std.specs.List.{AllByRecursion}
@@ -10,7 +11,7 @@ use Rattle.tam_word.proofs.Tests.{and-left, self-eq, true-both, eq-number}
 use Rattle.tam_graph.specs.declared.kind.Kind.{Kind}
 use Rattle.tam_graph.specs.declared.kind.Kind.TheVariants.{Param, Const, Op as Operate, Seq, Call, Arg, Ret, Give, Alloc, Fetch, Store, Cond, Switch, Leave}
 use Rattle.tam_graph.specs.declared.node.Node.{Node}
-use Rattle.tam_graph.specs.Graphs.{Graph, Code, code_of, kind_at, block_at, operands_of, callee_of, node_where, node_numbers, is_param, is_ret, is_split, or_kind}
+use Rattle.tam_graph.specs.Graphs.{Graph, Code, code_of, kind_at, operands_of, callee_of, node_where, node_numbers, is_param, is_ret, or_kind}
 use Rattle.tam_graph.specs.Accepted.{IsAccepted}
 use Rattle.tam_graph.specs.Written.{is_operand, is_call_node}
 use Rattle.tam_split.specs.Blocks.{BlockGraph, vertex_at}
@@ -23,14 +24,13 @@ use Rattle.tam_flow.specs.Told.{IsNumber, path_of}
 use Rattle.tam_flow.specs.Reached.{IsThere, kind_of}
 use Rattle.tam_flow.proofs.Growing.{Grows}
 use Rattle.tam_flow.proofs.Justified.{IsSoundWorld}
-use Rattle.tam_flow.proofs.CellChanges.{none-some}
 use Rattle.tam_flow.proofs.Deliveries.{IsSoundEffect, some-below}
 use Rattle.tam_flow.proofs.Nodes.{where-each, call-operand, is-param, is-ret}
 use Rattle.tam_flow.proofs.FiringReasons.{HaveThese, words-are, MayFire, path-code, call-is, its_line}
 use Rattle.tam_flow.proofs.Firings.{fired-sound}
 use Rattle.tam_flow.proofs.ActivationCounts.{size}
 use Rattle.tam_flow.proofs.Pairs.{Pairs, pairs-append}
-use Rattle.tam_flow.proofs.SentOnce.{cons-tail, nil-cons}
+use Rattle.tam_flow.proofs.SentOnce.{cons-tail}
 use Rattle.tam_flow.proofs.InterfacePlaces.{place-one}
 use Rattle.tam_flow.proofs.RunSteps.{KeptByFirings}
 

@@ -1,6 +1,6 @@
 -- Where words on their way come from: an argument, a node that fired, or an ask that arrived; so one word at most is sent to each node.
 -- That is so at the beginning, and after the run of a class.
-use Rattle.std.proofs.Common.{◌≡◌, ℕ, zero, suc, ◌^◌, ◌<◌, ◌≤◌, Bool, true, false, ◌==◌, List, [], ◌∷◌, ◌++◌, flat_map, zip, Some, length, slice_get, unwrap_or}
+use Rattle.std.proofs.Common.{◌≡◌, ℕ, suc, ◌^◌, ◌<◌, ◌≤◌, true, false, ◌==◌, List, [], ◌∷◌, ◌++◌, flat_map, zip, Some, length, slice_get, unwrap_or}
 use Rattle.std.proofs.Common.{refl, sym, ap, ◌∙◌, arith, subst, inl, inr, ◌⊎◌, true≢false}
 use Rattle.std.proofs.lemmas.List.{length-append, length-map}
 use Rattle.std.specs.List.{AllByRecursion}
@@ -17,24 +17,24 @@ use Rattle.tam_msgs.specs.declared.message.Message.{Message}
 use Rattle.tam_msgs.specs.declared.message.Message.TheVariants.{Word as Carry, Frame as Begin, Cells as Make, Fetch as Ask_cell, Store as Put_cell}
 use Rattle.tam_msgs.specs.Messages.{outside}
 use Rattle.tam_istr.specs.Cells.{Empty}
-use Rattle.tam_flow.specs.Worlds.{World, Effect, activation_at, its_code, word_of, opening, argument_message}
+use Rattle.tam_flow.specs.Worlds.{World, Effect, its_code, word_of, opening, argument_message}
 use Rattle.tam_flow.specs.Journals.{State, Run, initial, has_run, class_fired, block_of_act, after_event}
 use Rattle.tam_flow.specs.Told.{IsNumber, path_of}
 use Rattle.tam_flow.specs.Reached.{IsThere, kind_of, Has, HasArrived, cell_at}
 use Rattle.tam_flow.proofs.Growing.{Grows}
 use Rattle.tam_flow.proofs.Justified.{IsMessage, IsSoundWorld}
-use Rattle.tam_flow.proofs.CellChanges.{none-some, some-eq}
+use Rattle.tam_flow.proofs.CellChanges.{none-some}
 use Rattle.tam_flow.proofs.Deliveries.{IsSoundEffect, not-outside, some-below}
 use Rattle.tam_flow.proofs.DeliveryChanges.{arrays-run}
 use Rattle.tam_flow.proofs.Nodes.{where-each, is-param}
-use Rattle.tam_flow.proofs.ActivationCounts.{size}
-use Rattle.tam_flow.proofs.Pairs.{Pairs, pairs-append, pairs-at, pairs-flat, fires-once}
+use Rattle.tam_flow.proofs.Pairs.{Pairs, pairs-append, pairs-flat, fires-once}
 use Rattle.tam_flow.proofs.Senders.{asks, IsSentBy}
 use Rattle.tam_flow.proofs.SoundStates.{IsSoundState, IsRunnable, run-effect, counted, below-counted}
 use Rattle.tam_flow.proofs.SentOnce.{HasFired, IsOnceState, fired-later, nil-cons}
 use Rattle.tam_flow.proofs.DeliveredOnce.{one-wish}
 use Rattle.tam_flow.proofs.RunSteps.{run-kept, run-size, run-more, run_done, fires-now, fires-first}
-use Rattle.tam_flow.proofs.WordSenders.{IsFor, WordsApart, PathsDiffer, differ-later, SendsTo, sends-once, sends-later, param-eq, param-ret, few-pairs, for-eq, IsSentIn}
+use Rattle.tam_flow.proofs.WordSenders.{IsFor, WordsApart, PathsDiffer, differ-later, SendsTo, sends-once, sends-later, param-eq, param-ret}
+use Rattle.tam_flow.proofs.WordSenders.{few-pairs, for-eq, IsSentIn}
 use Rattle.tam_flow.proofs.WordSenders.{IsWordRun, words-kept}
 use Rattle.tam_flow.proofs.Givers.{is_received}
 use Rattle.tam_flow.proofs.Kept.{word-act}
@@ -69,7 +69,8 @@ ReadersApart r q = r.0 ≡ q.0 → r.1 ≡ q.1 → ⊥
 
 -- a reader of cell j of array a has asked for it, and was sent no word yet
 abbrev pub IsWaiting : State → ℕ → ℕ → ℕ × ℕ → Type 0
-IsWaiting s a j r = (n t : ℕ) × (slice_get s.sent n ≡ Some (Ask_cell a j r.0 r.1 t)) × (has s.arrived n ≡ true) × AllByRecursion (λ m. IsFor r.0 r.1 m → ⊥) s.sent
+IsWaiting s a j r = (n t : ℕ) × (slice_get s.sent n ≡ Some (Ask_cell a j r.0 r.1 t)) × (has s.arrived n ≡ true)
+    × AllByRecursion (λ m. IsFor r.0 r.1 m → ⊥) s.sent
 
 -- the readers of a cell
 abbrev pub WaitHere : State → Type 0
@@ -136,9 +137,11 @@ pub arrived-sent : (sent more : List Message) (arrived : List ℕ) → ((n : ℕ
     → slice_get (sent ++ more) n ≡ Some m → has arrived n ≡ true → slice_get sent n ≡ Some m
 arrived-sent sent more arrived before n m e h = sym (get-left sent more n (before n h)) ∙ e
 
-module _ (g : Graph) (args : List ℕ) (accepted : IsAccepted g) (all : Partitions) (s : State) (sound : IsSoundState g args s) (once : IsOnceState g args all s) where
+module _ (g : Graph) (args : List ℕ) (accepted : IsAccepted g) (all : Partitions) (s : State) (sound : IsSoundState g args s)
+    (once : IsOnceState g args all s) where
   -- two asks of one node are one
-  pub one-ask : are_valid g all ≡ true → (f x m n : ℕ) (p q : Message) → slice_get s.sent m ≡ Some p → slice_get s.sent n ≡ Some q → IsAskOf f x p → IsAskOf f x q
+  pub one-ask : are_valid g all ≡ true → (f x m n : ℕ) (p q : Message) → slice_get s.sent m ≡ Some p → slice_get s.sent n ≡ Some q → IsAskOf f x p
+      → IsAskOf f x q
       → m ≡ n
   one-ask valid f x m n p q e d h k =
       one-wish g args accepted all valid s sound once m n p q e d (ask-asks f x p h) (ask-asks f x q k) (λ i y j z a b.
@@ -327,7 +330,16 @@ module _ (g : Graph) (args : List ℕ) (accepted : IsAccepted g) (all : Partitio
 
       sends : (f x : ℕ) → IsSentIn g (block_of_act g s i b) (class_fired g all s i b c).world i (run_done g all s i b c) f x
           → IsThere (class_fired g all s i b c).world f × WordCause g all (after_event g all s (Run i b c)) f x
-      sends f x h = (there h.4, inr (inl (i, (vertex_at (block_of_act g s i b) h.0).node, fires-now g args accepted all valid s sound once i b c run h.0 h.1 h.2 h.3, h.4)))
+      sends f x h = (
+        there h.4,
+        inr (inl (
+          i,
+          (vertex_at (block_of_act g s i b) h.0).node,
+          fires-now g args accepted all valid s sound once i b c run h.0 h.1
+              h.2 h.3,
+          h.4,
+        )),
+      )
         where
           there : SendsTo g (class_fired g all s i b c).world i (vertex_at (block_of_act g s i b) h.0).node f x → IsThere (class_fired g all s i b c).world f
           there (inl k) = k.there

@@ -1,5 +1,5 @@
 -- A state that goes on: what was sent and has arrived stays so; and what each event keeps, where the words of the state stand, holds behind each legal journal.
-use Rattle.std.proofs.Common.{◌≡◌, ℕ, ◌^◌, ◌<◌, true, false, List, [], ◌∷◌, ◌++◌, Some, None, length, slice_get, refl, sym, ◌∙◌, subst, inl, inr, ◌⊎◌, ⊎_elim}
+use Rattle.std.proofs.Common.{◌≡◌, ℕ, ◌<◌, true, false, List, ◌++◌, Some, None, length, slice_get, sym, ◌∙◌, subst, inl, inr, ◌⊎◌, ⊎_elim}
 use Rattle.tam_word.specs.Lists.{has}
 use Rattle.tam_word.proofs.Each.{get-left}
 use Rattle.tam_graph.specs.Graphs.{Graph}
@@ -17,7 +17,7 @@ use Rattle.tam_flow.proofs.SoundStates.{IsRunnable}
 use Rattle.tam_flow.proofs.SentOnce.{arrived-more}
 use Rattle.tam_flow.proofs.WordSources.{IsWordState, words-initial, words-run, arrived-sent}
 use Rattle.tam_flow.proofs.WordsOnce.{words-delivered}
-use Rattle.tam_flow.proofs.JournalSteps.{IsLegalState, IsStepped, journal-keeps}
+use Rattle.tam_flow.proofs.JournalSteps.{IsLegalState, journal-keeps}
 
 -- what was sent and has arrived stays so, and what has arrived besides is new
 pub record Continues (s v : State) (New : ℕ → Message → Type 0) : Type 0 where
@@ -58,12 +58,14 @@ continues-delivery s before m x is_sent (Went e) = record {
 continues-delivery s before m x is_sent (Printed k v) = record {
   sent = λ n o e. e;
   arrived = arrived-more m s.arrived;
-  back = λ n o q h. ⊎_elim (λ k. inr (k, some-eq (sym (subst (λ i. slice_get s.sent i ≡ Some x) k is_sent) ∙ q))) (λ k. inl (q, k)) (arrived-cases m s.arrived n h);
+  back = λ n o q h. ⊎_elim (λ k. inr (k, some-eq (sym (subst (λ i. slice_get s.sent i ≡ Some x) k is_sent) ∙ q))) (λ k. inl (q, k))
+      (arrived-cases m s.arrived n h);
 }
 continues-delivery s before m x is_sent (Faulted f) = record {
   sent = λ n o e. e;
   arrived = arrived-more m s.arrived;
-  back = λ n o q h. ⊎_elim (λ k. inr (k, some-eq (sym (subst (λ i. slice_get s.sent i ≡ Some x) k is_sent) ∙ q))) (λ k. inl (q, k)) (arrived-cases m s.arrived n h);
+  back = λ n o q h. ⊎_elim (λ k. inr (k, some-eq (sym (subst (λ i. slice_get s.sent i ≡ Some x) k is_sent) ∙ q))) (λ k. inl (q, k))
+      (arrived-cases m s.arrived n h);
 }
 
 module _ (g : Graph) (args : List ℕ) (accepted : IsAccepted g) (all : Partitions) (valid : are_valid g all ≡ true) where

@@ -1,10 +1,10 @@
 -- One word at most is ever sent to a node, and before it arrives the node has none; a word that arrived is the node's word. So it is behind each legal journal.
-use Rattle.std.proofs.Common.{◌≡◌, ◌≢◌, ℕ, ◌<◌, Bool, true, false, ◌==◌, List, [], ◌∷◌, ◌++◌, map, replicate, Option, Some, None, length, slice_get, unwrap_or, refl, sym, ap}
-use Rattle.std.proofs.Common.{◌∙◌, ◌^◌, arith, subst, inl, inr, ◌⊎◌, ⊎_elim, true≢false, Contains}
+use Rattle.std.proofs.Common.{◌≡◌, ◌≢◌, ℕ, ◌<◌, Bool, true, false, ◌==◌, List, [], ◌∷◌, ◌++◌, replicate, Option, Some, length, slice_get, unwrap_or, refl, sym}
+use Rattle.std.proofs.Common.{◌∙◌, ◌^◌, subst, inl, inr, ◌⊎◌, ⊎_elim, true≢false}
 use Rattle.std.specs.List.{AllByRecursion}
 use Rattle.tam_word.specs.Lists.{has}
 use Rattle.tam_word.proofs.Each.{all-more, all-map, all-at_place}
-use Rattle.tam_word.proofs.Tests.{differs-number, number-differs, eq-number}
+use Rattle.tam_word.proofs.Tests.{differs-number}
 use Rattle.tam_graph.specs.Graphs.{Graph, is_split}
 use Rattle.tam_graph.specs.Accepted.{IsAccepted}
 use Rattle.tam_split.specs.GraphPartitions.{Partitions, are_valid}
@@ -12,30 +12,29 @@ use Rattle.tam_msgs.specs.declared.message.Message.{Message}
 use Rattle.tam_msgs.specs.declared.message.Message.TheVariants.{Word as Carry, Frame as Begin, Cells as Make, Fetch as Ask_cell, Store as Put_cell}
 use Rattle.tam_msgs.specs.Messages.{outside, answers}
 use Rattle.tam_istr.specs.Cells.{Cell, Reader, Empty, Filled, with_array}
-use Rattle.tam_flow.specs.Worlds.{World, Effect, Delivery, Went, Printed, Faulted, Fault, sends_only, changes, got, delivered, word_of}
-use Rattle.tam_flow.specs.Journals.{State, Event, Run, initial, after_delivery, after_event, state_after}
+use Rattle.tam_flow.specs.Worlds.{World, Effect, Went, Fault, sends_only, delivered, word_of}
+use Rattle.tam_flow.specs.Journals.{State, Event, after_delivery, state_after}
 use Rattle.tam_flow.specs.JournalLaws.{IsJournal}
 use Rattle.tam_flow.specs.Reached.{IsThere, kind_of, Has, HasArrived, cell_at}
 use Rattle.tam_flow.proofs.ActivationLists.{word-shape}
 use Rattle.tam_flow.proofs.Arriving.{arrived-cases}
-use Rattle.tam_flow.proofs.CellChanges.{none-some, some-eq, push-cases, all-same, cell-array}
+use Rattle.tam_flow.proofs.CellChanges.{some-eq, push-cases, all-same, cell-array}
 use Rattle.tam_flow.proofs.DeliveryChanges.{changed-cell}
-use Rattle.tam_flow.proofs.Deliveries.{not-outside, some-below}
+use Rattle.tam_flow.proofs.Deliveries.{some-below}
 use Rattle.tam_flow.proofs.Growing.{with_begun, grows-same, grows-begun, grows-made, grows-arrays}
 use Rattle.tam_flow.proofs.Justified.{IsMessage}
 use Rattle.tam_flow.proofs.Pairs.{Pairs}
 use Rattle.tam_flow.proofs.SoundStates.{IsSoundState, sound-journal}
-use Rattle.tam_flow.proofs.SentOnce.{IsOnceState, arrived-more, arrived-now}
+use Rattle.tam_flow.proofs.SentOnce.{IsOnceState, arrived-more}
 use Rattle.tam_flow.proofs.DeliveredOnce.{once-journal}
 use Rattle.tam_flow.proofs.WordSenders.{IsFor, WordsApart, for-eq}
-use Rattle.tam_flow.proofs.Givers.{is_received}
 use Rattle.tam_flow.proofs.ComingWords.{begun-words}
-use Rattle.tam_flow.proofs.WordSources.{IsAskOf, WordCause, IsCaused, ReadersApart, IsWaiting, WaitHere, IsWordState, ask-kind, one-ask}
+use Rattle.tam_flow.proofs.WordSources.{WordCause, IsCaused, ReadersApart, IsWaiting, WaitHere, IsWordState, ask-kind, one-ask}
 use Rattle.tam_flow.proofs.WordSources.{cause-takes, caused-later, words-initial, words-run}
 use Rattle.tam_flow.proofs.Accesses.{with_new_cell, FetchCases, StoreCases, fetch-cases, store-cases, cell-here}
 use Rattle.tam_flow.proofs.WordDeliveries.{filled-empty, one-word, word-cause, IsFresh, sent, words-went, words-same, carried-same, wait-later}
 use Rattle.tam_flow.proofs.WordDeliveries.{answers-it, words-carry, words-deferred}
-use Rattle.tam_flow.proofs.JournalSteps.{IsLegalState, IsStepped, journal-keeps}
+use Rattle.tam_flow.proofs.JournalSteps.{journal-keeps}
 
 module _ (g : Graph) (args : List ℕ) (accepted : IsAccepted g) (all : Partitions) where
   module _ (valid : are_valid g all ≡ true) (s : State) (sound : IsSoundState g args s) (once : IsOnceState g args all s) (done : IsWordState g all s)
@@ -44,7 +43,8 @@ module _ (g : Graph) (args : List ℕ) (accepted : IsAccepted g) (all : Partitio
     answers-apart : (v : ℕ) (rs : List Reader) → Pairs ReadersApart rs → Pairs WordsApart (answers v rs)
     answers-apart v [] h = tt
     answers-apart v (r ∷ rs) h = (
-      all-map (WordsApart (Carry r.0 r.1 v)) (λ q. Carry q.0 q.1 v) rs (all-more (ReadersApart r) (λ q. WordsApart (Carry r.0 r.1 v) (Carry q.0 q.1 v)) (λ q k f y inside a b.
+      all-map (WordsApart (Carry r.0 r.1 v)) (λ q. Carry q.0 q.1 v) rs (all-more (ReadersApart r) (λ q. WordsApart (Carry r.0 r.1 v) (Carry q.0 q.1 v))
+          (λ q k f y inside a b.
           let c = for-eq a.1 in let d = for-eq b.1 in k (c.0 ∙ sym d.0) (c.1 ∙ sym d.1)) rs h.0),
       answers-apart v rs h.1,
     )
@@ -81,7 +81,8 @@ module _ (g : Graph) (args : List ℕ) (accepted : IsAccepted g) (all : Partitio
             (after_delivery s m (Went (sends_only (with_new_cell s.world a j (Filled v t)) (answers v rs))))) (answers v rs)
         fresh =
             all-map (IsFresh g args accepted all valid s sound once done few m x is_sent new (after_delivery s m (Went e))) (λ r. Carry r.0 r.1 v) rs
-            (all-more (IsWaiting s a j) (λ r. IsFresh g args accepted all valid s sound once done few m x is_sent new (after_delivery s m (Went e)) (Carry r.0 r.1 v))
+            (all-more (IsWaiting s a j) (λ r. IsFresh g args accepted all valid s sound once done few m x is_sent new (after_delivery s m (Went e))
+            (Carry r.0 r.1 v))
             one rs old.1)
           where
             one : (r : Reader) → IsWaiting s a j r → IsFresh g args accepted all valid s sound once done few m x is_sent new
@@ -90,8 +91,7 @@ module _ (g : Graph) (args : List ℕ) (accepted : IsAccepted g) (all : Partitio
                 let kind = waiting r k in
                 let c = for-eq q.1 in
                 subst (λ n. IsThere s.world f × WordCause g all (after_delivery s m (Went e)) f n × AllByRecursion (λ p. IsFor f n p → ⊥) s.sent) c.1
-                (subst (λ n. IsThere s.world n × WordCause g all (after_delivery s m (Went e)) n r.1 × AllByRecursion (λ p. IsFor n r.1 p → ⊥) s.sent) c.0
-                (
+                (subst (λ n. IsThere s.world n × WordCause g all (after_delivery s m (Went e)) n r.1 × AllByRecursion (λ p. IsFor n r.1 p → ⊥) s.sent) c.0 (
                   kind.0,
                   inr (inr (
                     kind.1,
@@ -118,7 +118,8 @@ module _ (g : Graph) (args : List ℕ) (accepted : IsAccepted g) (all : Partitio
             apart : (q : Reader) → IsWaiting s a j q → IsFor r.0 r.1 (Carry q.0 q.1 v) → ⊥
             apart q l d =
                 let c = for-eq d.1 in
-                let same = one-ask g args accepted all s sound once valid r.0 r.1 l.0 k.0 (Ask_cell a j q.0 q.1 l.1) (Ask_cell b i r.0 r.1 k.1) l.2 k.2 c (refl, refl) in
+                let same = one-ask g args accepted all s sound once valid r.0 r.1 l.0 k.0 (Ask_cell a j q.0 q.1 l.1) (Ask_cell b i r.0 r.1 k.1) l.2 k.2 c
+                (refl, refl) in
                 let cells = ask-cells (some-eq (sym (subst (λ n. slice_get s.sent n ≡ Some (Ask_cell a j q.0 q.1 l.1)) same l.2) ∙ k.2)) in
                 filled-empty (some-eq (sym (cell-here s.world a j (Filled v t) (Empty rs) was)
                 ∙ subst (λ n. cell_at (with_new_cell s.world a j (Filled v t)) n j ≡ Some (Empty qs)) (sym cells.0)
@@ -130,9 +131,11 @@ module _ (g : Graph) (args : List ℕ) (accepted : IsAccepted g) (all : Partitio
             stay : cell_at s.world b i ≡ Some (Empty qs) → Pairs ReadersApart qs × AllByRecursion
                 (IsWaiting (after_delivery s m (Went (sends_only (with_new_cell s.world a j (Filled v t)) (answers v rs)))) b i) qs
             stay q =
-                let w = done.waits b i qs q in
-                (w.0, all-more (IsWaiting s b i) (IsWaiting (after_delivery s m (Went e)) b i)
-                (λ r k. wait-later g args accepted all valid s sound once done few m x is_sent new e b i r k (silent b i qs h r k)) qs w.1)
+                let w = done.waits b i qs q in (
+                  w.0,
+                  all-more (IsWaiting s b i) (IsWaiting (after_delivery s m (Went e)) b i)
+                      (λ r k. wait-later g args accepted all valid s sound once done few m x is_sent new e b i r k (silent b i qs h r k)) qs w.1,
+                )
 
     -- where the world and the messages stay
     words-stay : (out : List (ℕ × ℕ)) (q : Option Fault) → ((f y u : ℕ) → x ≡ Carry f y u → (f == outside) ≡ false → ⊥)
@@ -175,7 +178,8 @@ module _ (g : Graph) (args : List ℕ) (accepted : IsAccepted g) (all : Partitio
       w : World
       w = record s.world { arrays = with_array s.world.arrays n; makers = s.world.makers ++ (f, y) ∷ [] }
 
-      cells : (a j : ℕ) (rs : List Reader) → cell_at (record s.world { arrays = with_array s.world.arrays n; makers = s.world.makers ++ (f, y) ∷ [] }) a j ≡ Some (Empty rs)
+      cells : (a j : ℕ) (rs : List Reader) → cell_at (record s.world { arrays = with_array s.world.arrays n; makers = s.world.makers ++ (f, y) ∷ [] }) a
+          j ≡ Some (Empty rs)
           → (rs ≡ []) ⊎ (cell_at s.world a j ≡ Some (Empty rs))
       cells a j rs h = go (cell-array (with_array s.world.arrays n) a j (Empty rs) h)
         where
@@ -223,7 +227,8 @@ pub words-journal : (g : Graph) (all : Partitions) (args : List ℕ) (events : L
 words-journal g all args events journal =
     journal-keeps g all args events journal (IsWordState g all) (words-initial g args all) (record {
       runs = λ s state whole done i b c run. words-run g args journal.accepted all journal.valid s state.sound state.once done state.few i b c run;
-      arrives = λ s state whole done m x is_sent new. words-delivered g args journal.accepted all journal.valid s state.sound state.once done state.few m x is_sent new;
+      arrives = λ s state whole done m x is_sent new. words-delivered g args journal.accepted all journal.valid s state.sound state.once done state.few m x
+          is_sent new;
     })
 
 module _ (g : Graph) (all : Partitions) (args : List ℕ) (events : List Event) (journal : IsJournal g all args events) where

@@ -117,6 +117,7 @@ module _ (s : State) (before : (n : ℕ) → has s.arrived n ≡ true → n < le
             (subst (λ n. cell_at s.world a n ≡ Some (Empty rs)) q.1 was)))
 
     module _ (x : Message) (is_sent : slice_get s.sent m ≡ Some x) where
+      -- the state goes on
       on : Continues s after_change (ThisNew m x)
       on = continues-delivery s before m x is_sent (Went (sends_only (with_new_cell s.world a j c) ms))
 
@@ -139,8 +140,8 @@ module _ (s : State) (before : (n : ℕ) → has s.arrived n ≡ true → n < le
     stored = λ w n b i y d p q. ⊎_elim (λ r. word-stays a j rs was c [] b i y d (h.stored whole n b i y d r.0 r.1)) (λ r. absurd (ask-put r.1))
         (go.back n (Put_cell b i y d) p q);
     fetched = λ w n b i k z d p q.
-        ⊎_elim (λ r. served-later a j rs was c [] (Ask_cell a j f x t) is_sent (λ e y o. inl (rs ++ (f, x) ∷ [], here, left-in (e, y) rs ((f, x) ∷ []) o)) b
-        i k z
+        ⊎_elim (λ r. served-later a j rs was c [] (Ask_cell a j f x t) is_sent
+        (λ e y o. inl (rs ++ (f, x) ∷ [], here, left-in (e, y) rs ((f, x) ∷ []) o)) b i k z
         (h.fetched whole n b i k z d r.0 r.1)) (λ r. this b i k z (ask-eq r.1)) (go.back n (Ask_cell b i k z d) p q);
     once = λ w l n b i y z d k p q r o.
         ⊎_elim (λ e. ⊎_elim (λ v. h.once whole l n b i y z d k e.0 v.0 e.1 v.1) (λ v. absurd (ask-put v.1)) (go.back n (Put_cell b i z k) q o))

@@ -41,7 +41,7 @@ pub record IsArrivedState (s : State) : Type 0 where
   pub printed : (n k v : ℕ) → slice_get s.sent n ≡ Some (Carry outside k v) → has s.arrived n ≡ true → Contains s.printed (k, v)
 
 -- which number has arrived
-arrived-cases : (m : ℕ) (xs : List ℕ) (n : ℕ) → has (m ∷ xs) n ≡ true → (m ≡ n) ⊎ (has xs n ≡ true)
+pub arrived-cases : (m : ℕ) (xs : List ℕ) (n : ℕ) → has (m ∷ xs) n ≡ true → (m ≡ n) ⊎ (has xs n ≡ true)
 arrived-cases m xs n h = go (m == n) refl
   where
     go : (b : Bool) → (m == n) ≡ b → (m ≡ n) ⊎ (has xs n ≡ true)

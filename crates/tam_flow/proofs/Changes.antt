@@ -18,7 +18,7 @@ use Rattle.tam_flow.proofs.Growing.{Grows, KeepsPlace, with_changed, grows-chang
 use Rattle.tam_flow.proofs.Justified.{IsValue, IsMade, IsCell, IsSoundWorld, value-later, made-later, cell-later}
 
 -- where one element of a list is changed, each is what it was, or it is the changed one
-changed-cases : (n i : ℕ) (f : ActivationState → ActivationState) (xs : List ActivationState)
+pub changed-cases : (n i : ℕ) (f : ActivationState → ActivationState) (xs : List ActivationState)
     → (or_activation (slice_get (changed_at n f xs) i) ≡ or_activation (slice_get xs i))
     ⊎ ((n ≡ i) × (or_activation (slice_get (changed_at n f xs) i) ≡ f (or_activation (slice_get xs i))))
 changed-cases n i f [] = inl refl

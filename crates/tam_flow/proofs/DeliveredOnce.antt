@@ -272,7 +272,7 @@ module _ (g : Graph) (args : List ℕ) (accepted : IsAccepted g) (all : Partitio
     -- ---- any event
 
     -- and each event
-    once-event : (e : Event) → length s.world.activations < 2 ^ 32 → may_follow g all s e ≡ true → IsOnceState g args all (after_event g all s e)
+    pub once-event : (e : Event) → length s.world.activations < 2 ^ 32 → may_follow g all s e ≡ true → IsOnceState g args all (after_event g all s e)
     once-event (Run i b c) few may =
         once-run g args accepted all valid s sound once i b c (no-fault g args accepted s.fault (and-left (is_none s.fault) (may_run g all s i b c) may))
         (runnable g all s i b c (and-right (is_none s.fault) (may_run g all s i b c) may))

@@ -46,7 +46,7 @@ filled-eq : {u v s t : ℕ} → Filled u s ≡ Filled v t → (u ≡ v) × (s �
 filled-eq e = (cc, cc)
 
 -- a cell that changes leaves the others
-changed-cell : (w : World) (a j : ℕ) (c : Cell) (b i : ℕ) (d : Cell) → cell_at (record w { arrays = with_cell w.arrays a j c }) b i ≡ Some d
+pub changed-cell : (w : World) (a j : ℕ) (c : Cell) (b i : ℕ) (d : Cell) → cell_at (record w { arrays = with_cell w.arrays a j c }) b i ≡ Some d
     → (cell_at w b i ≡ Some d) ⊎ ((a ≡ b) × (j ≡ i) × (c ≡ d))
 changed-cell w a j c b i d e = ⊎_elim old new (set-cases w.arrays a b (slice_set (cells_at w a) j c))
   where

@@ -3,14 +3,16 @@ use Rattle.std.proofs.Common.{◌≡◌, ℕ, zero, suc, ◌<◌, Bool, true, fa
 use Rattle.std.proofs.Common.{subst, inl, inr, ◌⊎◌, true≢false}
 use Rattle.std.specs.List.{AllByRecursion}
 use Rattle.tam_word.specs.Lists.{any_of, first_of, below, has, where_so}
-use Rattle.tam_graph.specs.declared.kind.Kind.TheVariants.{Param, Ret, Merge}
+use Rattle.tam_graph.specs.declared.kind.Kind.TheVariants.{Param, Ret, Merge, Enter}
 use Rattle.tam_graph.specs.Graphs.{Graph, code_of, kind_at, block_at, node_numbers, node_where, is_param, is_ret, is_merge}
+use Rattle.tam_graph.specs.Graphs.{nodes_in, node_in, is_enter}
 use Rattle.tam_graph.specs.declared.check_cause.CheckCause.TheVariants.{WrongBlock as Wrong_block, PlaceTwice as Place_twice}
 use Rattle.tam_graph.specs.Accepted.{IsAccepted, is_wrong_block, is_place_twice, same_place}
 use Rattle.tam_word.proofs.Tests.{true-both, number-eq, self-eq}
-use Rattle.tam_word.proofs.Each.{append-nil, where_so-nil, below-each}
-use Rattle.tam_flow.proofs.Nodes.{no-faults, is-param, is-ret, is-merge}
-use Rattle.tam_word.proofs.Members.{has-below}
+use Rattle.tam_word.proofs.Each.{append-nil, where_so-nil, below-each, all-more}
+use Rattle.tam_flow.proofs.Nodes.{no-faults, is-param, is-ret, is-merge, is-enter, block-each}
+use Rattle.tam_word.proofs.Members.{has-below, in-has, below-in}
+use Rattle.tam_split.proofs.Firers.{node-in}
 
 -- a test of numbers below n passes where one passes
 any-below : (test : ℕ → Bool) (n y : ℕ) → y < n → test y ≡ true → any_of test (below n) ≡ true
@@ -115,3 +117,21 @@ module _ (g : Graph) (accepted : IsAccepted g) (n : ℕ) (there : n < length g.c
     where
       both : ((f == f) && (k == k)) ≡ true
       both = true-both (f == f) (k == k) (self-eq f) (self-eq k)
+
+  -- the `in` of a place of a branch is found
+  pub enter-at : (x k : ℕ) → x < length (code_of g n).nodes → kind_at (code_of g n) x ≡ Enter k
+      → node_in (code_of g n) (block_at (code_of g n) x) (is_enter k) ≡ x ∷ []
+  enter-at x k l e =
+      first-is (λ y. is_enter k (kind_at (code_of g n) y)) (nodes_in (code_of g n) (block_at (code_of g n) x)) x
+      (in-has (nodes_in (code_of g n) (block_at (code_of g n) x)) x (node-in (code_of g n) x (below-in x (length (code_of g n).nodes) l)))
+      (rw e (self-eq k))
+      (all-more (λ y. (y < length (code_of g n).nodes) × ((block_at (code_of g n) y == block_at (code_of g n) x) ≡ true))
+      (λ y. is_enter k (kind_at (code_of g n) y) ≡ true → y ≡ x) one
+      (nodes_in (code_of g n) (block_at (code_of g n) x)) (block-each (code_of g n) (block_at (code_of g n) x)))
+    where
+      one : (y : ℕ) → (y < length (code_of g n).nodes) × ((block_at (code_of g n) y == block_at (code_of g n) x) ≡ true)
+          → is_enter k (kind_at (code_of g n) y) ≡ true → y ≡ x
+      one y m h =
+          let d : kind_at (code_of g n) y ≡ Enter k = is-enter k _ h in
+          let b : block_at (code_of g n) y ≡ block_at (code_of g n) x = number-eq _ _ m.1 in
+          place-one y x m.0 l (rw (b, e, d, self-eq (block_at (code_of g n) x)) (self-eq k)) (rw (b, d, e, self-eq (block_at (code_of g n) x)) (self-eq k))

@@ -44,7 +44,7 @@ changed-cases (suc i) zero f (x ∷ xs) = inl refl
 changed-cases (suc i) (suc j) f (x ∷ xs) = elim (changed-cases i j f xs) [ inl e ↦ inl e | inr r ↦ inr (ap suc r.0, r.1) ]
 
 -- an element of a list with one more is the list's, or it is that one, behind all others
-push-cases : (xs : List ActivationState) (y : ActivationState) (j : ℕ)
+pub push-cases : (xs : List ActivationState) (y : ActivationState) (j : ℕ)
     → (slice_get (xs ++ y ∷ []) j ≡ slice_get xs j) ⊎ ((slice_get xs j ≡ None) × (slice_get (xs ++ y ∷ []) j ≡ Some y) × (j ≡ length xs))
 push-cases [] y zero = inr (refl, refl, refl)
 push-cases [] y (suc j) = inl refl

@@ -179,7 +179,7 @@ module _ (g : Graph) (args : List ℕ) (accepted : IsAccepted g) (all : Partitio
   -- ---- the beginning
 
   -- the arguments are words
-  initial-words : AllByRecursion (λ m. asks m ≡ false) (initial g args).sent
+  pub initial-words : AllByRecursion (λ m. asks m ≡ false) (initial g args).sent
   initial-words = all-flat (λ m. asks m ≡ false) (argument_message g) (zip (below (length args)) args) (each (zip (below (length args)) args))
     where
       each : (es : List (ℕ × ℕ)) → AllByRecursion (λ e. AllByRecursion (λ m. asks m ≡ false) (argument_message g e)) es
@@ -207,9 +207,9 @@ module _ (g : Graph) (args : List ℕ) (accepted : IsAccepted g) (all : Partitio
 
   -- ---- a class runs
 
-  module _ (valid : are_valid g all ≡ true) (s : State) (sound : IsSoundState g args s) (once : IsOnceState g args all s) where
+  module _ (valid : are_valid g all ≡ true) where
     -- where one node fires, it is one block's and one class's
-    one-class : (n b c d e y z : ℕ) → n < length g.codes → b < length (code_of g n).owners
+    pub one-class : (n b c d e y z : ℕ) → n < length g.codes → b < length (code_of g n).owners
         → y < length (block_graph (code_of g n) d).vertices → z < length (block_graph (code_of g n) b).vertices
         → (vertex_at (block_graph (code_of g n) d) y).inlet ≡ false → (vertex_at (block_graph (code_of g n) b) z).inlet ≡ false
         → (vertex_at (block_graph (code_of g n) d) y).node ≡ (vertex_at (block_graph (code_of g n) b) z).node
@@ -233,6 +233,7 @@ module _ (g : Graph) (args : List ℕ) (accepted : IsAccepted g) (all : Partitio
             → (vertex_at (block_graph (code_of g n) d) y).node ≡ (vertex_at (block_graph (code_of g n) b) z).node → In y (class_at (parts_of all n d) e)
             → e ≡ c) (sym w) base
 
+  module _ (valid : are_valid g all ≡ true) (s : State) (sound : IsSoundState g args s) (once : IsOnceState g args all s) where
     -- a run sends each of its wishes once
     pub once-run : (i b c : ℕ) → s.fault ≡ None → IsRunnable g all s i b c → IsOnceState g args all (after_event g all s (Run i b c))
     once-run i b c whole run = record {
@@ -340,7 +341,7 @@ module _ (g : Graph) (args : List ℕ) (accepted : IsAccepted g) (all : Partitio
           where
             meet : HasFired g all s i t.2 → ⊥
             meet f =
-                let both = one-class (activation_at s.world i).code b c f.block f.class f.place k.1 (sound.world.codes i run.there)
+                let both = one-class valid (activation_at s.world i).code b c f.block f.class f.place k.1 (sound.world.codes i run.there)
                 (run-block g args accepted all s i b c valid sound run)
                 (subst (λ n. f.place < length (block_graph (code_of g n) f.block).vertices) f.is_code f.within) k.3
                 (subst (λ n. (vertex_at (block_graph (code_of g n) f.block) f.place).inlet ≡ false) f.is_code f.no_inlet) k.4

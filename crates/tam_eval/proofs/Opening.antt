@@ -33,7 +33,7 @@ pub arguments-next : (g : Graph) (args : List ℕ) (k : ℕ) → k < length args
 arguments-next g args k inside =
     let same : length (below k) ≡ length (take k args) = omega (arith, length-below k, length-take k args) in
     let pairs : zip (below (suc k)) (take (suc k) args) ≡ zip (below k) (take k args) ++ (k, get_or args k 0) ∷ [] =
-        ap (zip (below (suc k))) (take-suc args k 0 inside) ∙ zip-append (below k) (take k args) k (get_or args k 0) same in
+    ap (zip (below (suc k))) (take-suc args k 0 inside) ∙ zip-append (below k) (take k args) k (get_or args k 0) same in
     ap (flat_map (argument_message g)) pairs
     ∙ flat_map-append (argument_message g) (zip (below k) (take k args)) ((k, get_or args k 0) ∷ [])
     ∙ ap (λ l. flat_map (argument_message g) (zip (below k) (take k args)) ++ l) (append-nil (argument_message g (k, get_or args k 0)))

@@ -6,13 +6,15 @@ use Rattle.tam_msgs.specs.declared.step.Step.{Step}
 use Rattle.tam_msgs.specs.declared.step.Step.TheVariants.{Ran, Delivered, Printed, Quiet as Step_quiet}
 use Rattle.tam_msgs.specs.declared.stop.Stop.{Stop}
 use Rattle.tam_msgs.specs.declared.stop.Stop.TheVariants.{DoubleWrite, OutOfRange, FramesFull, CellsFull, BudgetSpent, NoMemory}
-use Rattle.tam_msgs.specs.Runs.{Quiet, Double_write, Out_of_range, Frames_full, Cells_full, Budget_spent, Outcome, Next, Ended}
+use Rattle.tam_msgs.specs.declared.choice.Choice.{Choice}
+use Rattle.tam_msgs.specs.declared.choice.Choice.TheVariants.{Quiet as Choose_quiet, Run as Choose_run, Deliver as Choose_delivery}
+use Rattle.tam_msgs.specs.Runs.{choice, Quiet, Double_write, Out_of_range, Frames_full, Cells_full, Budget_spent, Outcome, Next, Ended}
 use Rattle.tam_word.specs.Lists.{below}
 use Rattle.tam_graph.specs.declared.kind.Kind.{Kind}
 use Rattle.tam_graph.specs.Graphs.{Graph, operands_of}
 use Rattle.tam_msgs.specs.declared.message.Message.{Message}
 use Rattle.tam_flow.specs.Worlds.{World, ActivationState, Effect, begun, changes, its_code, words_of, firing_of, opening, argument_message}
-use Rattle.tam_eval.specs.GraphRuns.{GraphState, joins, nothing_begun, graph_step}
+use Rattle.tam_eval.specs.GraphRuns.{GraphState, joins, nothing_begun, some_ready, graph_step}
 use Rattle.tam_eval.specs.declared.activation.Activation.{Activation}
 use Rattle.tam_eval.specs.declared.machine.Machine.{Machine}
 
@@ -124,13 +126,27 @@ LeavesAtQuiet old new order order' (Ok Delivered) = Unit {0}
 LeavesAtQuiet old new order order' (Ok (Printed k w)) = Unit {0}
 LeavesAtQuiet old new order order' (Err stop) = Unit {0}
 
--- the answer isn't that the run is quiet
-abbrev pub IsNotQuiet : Result Step Stop → Type 0
-IsNotQuiet (Ok Step_quiet) = ⊥
-IsNotQuiet (Ok Ran) = Unit {0}
-IsNotQuiet (Ok Delivered) = Unit {0}
-IsNotQuiet (Ok (Printed k w)) = Unit {0}
-IsNotQuiet (Err stop) = Unit {0}
+-- the answer is that of a vertex that fired
+abbrev pub IsRun : Result Step Stop → Type 0
+IsRun (Ok Ran) = Unit {0}
+IsRun (Ok Delivered) = ⊥
+IsRun (Ok (Printed k w)) = ⊥
+IsRun (Ok Step_quiet) = ⊥
+IsRun (Err stop) = Unit {0}
+
+-- the answer is that of a delivery
+abbrev pub IsDelivery : Result Step Stop → Type 0
+IsDelivery (Ok Ran) = ⊥
+IsDelivery (Ok Delivered) = Unit {0}
+IsDelivery (Ok (Printed k w)) = Unit {0}
+IsDelivery (Ok Step_quiet) = ⊥
+IsDelivery (Err stop) = Unit {0}
+
+-- the answer is that of what was chosen
+abbrev pub IsAnswerOf : Choice → Result Step Stop → Type 0
+IsAnswerOf Choose_run result = IsRun result
+IsAnswerOf (Choose_delivery k) result = IsDelivery result
+IsAnswerOf Choose_quiet result = result ≡ Ok Step_quiet
 
 -- the state before the first event: the root has begun, and the arguments are pending
 abbrev pub opening_state : Graph → List ℕ → EvalState
@@ -153,12 +169,16 @@ abbrev pub stop_of : Result Step Stop → Option Stop
 stop_of (Ok step) = None
 stop_of (Err stop) = Some stop
 
+-- what comes next
+abbrev pub next_choice : EvalState → List Item → Choice
+next_choice s order = (choice order (some_ready s.ready) (length s.pending)).0
+
 -- what one call answers: one event, or where the run was stopped before, the same stop once more
 abbrev pub IsEvent : EvalRun → EvalRun → List Item → List Item → Result Step Stop → Option Stop → Type 0
 IsEvent old new order order' result (Some stop) = (result ≡ Err stop) × (new ≡ old) × (order' ≡ order)
 IsEvent old new order order' result None =
     ((printed : List (ℕ × ℕ)) → IsOutcome (graph_step old.graph old.limits (state_with old.state order printed)) new.state order' printed result)
-    × (new.stopped ≡ stop_of result) × LeavesAtQuiet old.state new.state order order' result
+    × (new.stopped ≡ stop_of result) × LeavesAtQuiet old.state new.state order order' result × IsAnswerOf (next_choice old.state order) result
 
 -- an event more, and else the same sizes
 abbrev pub CountsEvent : Machine → Machine → Type 0

@@ -5,7 +5,7 @@ ghost use Rattle.tam_msgs.specs.Messages.{answers, AreLimits};
 ghost use Rattle.tam_msgs.specs.declared.item.Item.{Item};
 ghost use Rattle.tam_flow.specs.Worlds.{sends_only};
 ghost use Rattle.tam_eval.specs.GraphRuns.{refusal, delivered_unless};
-ghost use Rattle.tam_eval.specs.Eval.{EvalState, state_of, state_with, effected, IsOutcome, Grows, Fits, IsNotQuiet, IsWithinLimits, with_begun};
+ghost use Rattle.tam_eval.specs.Eval.{EvalState, state_of, state_with, effected, IsOutcome, Grows, Fits, IsDelivery, IsWithinLimits, with_begun};
 
 use crate::activation::Activation;
 use crate::machine::Machine;
@@ -93,7 +93,7 @@ fn deliver_word(
     requires within { IsWithinLimits machine.old limits.now }
     ensures outcome { (order : List Item) (printed : List (ℕ × ℕ)) → IsOutcome (delivered_unless program.now (state_with (state_of machine.old) order printed) (Message.Word frame inlet word) (refusal limits.now (state_of machine.old).world (Message.Word frame inlet word))) (state_of machine.new) order printed result }
     ensures within { Fits machine.old machine.new limits.now }
-    ensures goes { IsNotQuiet result }
+    ensures goes { IsDelivery result }
 {
     if frame == OUTSIDE {
         return Ok(Step::Printed { place: inlet, word });
@@ -117,7 +117,7 @@ fn deliver_frame(
     requires within { IsWithinLimits machine.old limits.now }
     ensures outcome { (order : List Item) (printed : List (ℕ × ℕ)) → IsOutcome (delivered_unless program.now (state_with (state_of machine.old) order printed) (Message.Frame code frame inlet) (refusal limits.now (state_of machine.old).world (Message.Frame code frame inlet))) (state_of machine.new) order printed result }
     ensures within { Fits machine.old machine.new limits.now }
-    ensures goes { IsNotQuiet result }
+    ensures goes { IsDelivery result }
 {
     if machine.activations.len() == limits.frames as usize {
         return Err(Stop::FramesFull {
@@ -144,7 +144,7 @@ fn deliver_cells(
     requires counted { length machine.old.cells.arrays < machine.old.events }
     ensures outcome { (order : List Item) (printed : List (ℕ × ℕ)) → IsOutcome (delivered_unless program.now (state_with (state_of machine.old) order printed) (Message.Cells len frame inlet) (refusal limits.now (state_of machine.old).world (Message.Cells len frame inlet))) (state_of machine.new) order printed result }
     ensures within { Fits machine.old machine.new limits.now }
-    ensures goes { IsNotQuiet result }
+    ensures goes { IsDelivery result }
 {
     match machine.cells.alloc_cells(len) {
         Ok(number) => {
@@ -180,7 +180,7 @@ fn deliver_fetch(
     requires within { IsWithinLimits machine.old limits.now }
     ensures outcome { (order : List Item) (printed : List (ℕ × ℕ)) → IsOutcome (delivered_unless program.now (state_with (state_of machine.old) order printed) (Message.Fetch array index frame inlet site) (refusal limits.now (state_of machine.old).world (Message.Fetch array index frame inlet site))) (state_of machine.new) order printed result }
     ensures within { Fits machine.old machine.new limits.now }
-    ensures goes { IsNotQuiet result }
+    ensures goes { IsDelivery result }
 {
     match machine.cells.fetch(array, index, Reader { frame, inlet }) {
         Ok(Fetched::Now(word)) => {
@@ -215,7 +215,7 @@ fn deliver_store(
     requires within { IsWithinLimits machine.old limits.now }
     ensures outcome { (order : List Item) (printed : List (ℕ × ℕ)) → IsOutcome (delivered_unless program.now (state_with (state_of machine.old) order printed) (Message.Store array index word site) (refusal limits.now (state_of machine.old).world (Message.Store array index word site))) (state_of machine.new) order printed result }
     ensures within { Fits machine.old machine.new limits.now }
-    ensures goes { IsNotQuiet result }
+    ensures goes { IsDelivery result }
 {
     match machine.cells.store(array, index, word, site) {
         Ok(readers) => {
@@ -249,7 +249,7 @@ pub(crate) fn deliver(
     requires counted { length machine.old.cells.arrays < machine.old.events }
     ensures outcome { (order : List Item) (printed : List (ℕ × ℕ)) → IsOutcome (delivered_unless program.now (state_with (state_of machine.old) order printed) (message) (refusal limits.now (state_of machine.old).world (message))) (state_of machine.new) order printed result }
     ensures within { Fits machine.old machine.new limits.now }
-    ensures goes { IsNotQuiet result }
+    ensures goes { IsDelivery result }
 {
     match message {
         Message::Word { frame, inlet, word } => deliver_word(

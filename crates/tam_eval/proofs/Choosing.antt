@@ -1,5 +1,5 @@
 -- What a step does, by what was chosen.
-use Rattle.std.proofs.Common.{◌≡◌, ◌∙◌, ℕ, zero, suc, Bool, true, false, not, ◌==◌, List, [], ◌∷◌, length, refl, ap, arith, sym, subst, None, Result, Ok, Err}
+use Rattle.std.proofs.Common.{◌≡◌, ◌∙◌, ℕ, Bool, false, not, ◌==◌, List, [], ◌∷◌, length, refl, ap, arith, sym, subst, None, Result, Ok, Err}
 use Rattle.std.specs.Prelude.{slice_get}
 use Rattle.tam_word.proofs.Tests.{differs-number}
 use Rattle.tam_msgs.specs.declared.limits.Limits.{Limits}
@@ -12,7 +12,8 @@ use Rattle.tam_msgs.specs.declared.choice.Choice.TheVariants.{Run as Choose_run,
 use Rattle.tam_msgs.specs.Runs.{choice}
 use Rattle.tam_graph.specs.Graphs.{Graph}
 use Rattle.tam_eval.specs.GraphRuns.{some_ready, chosen, counted, fired_first, delivered_at, graph_step}
-use Rattle.tam_eval.specs.Eval.{EvalState, EvalRun, state_with, IsOutcome, IsRun, IsDelivery, IsAnswerOf, next_choice, LeavesAtQuiet, IsEvent, stop_of}
+use Rattle.tam_eval.specs.Machines.{EvalState}
+use Rattle.tam_eval.specs.Events.{EvalRun, state_with, IsOutcome, IsRun, IsDelivery, IsAnswerOf, next_choice, LeavesAtQuiet, IsEvent, stop_of}
 
 -- something is ready where the list isn't empty
 pub ready-test : (xs : List (ℕ × ℕ)) → not (length xs == 0) ≡ some_ready xs

@@ -1,5 +1,5 @@
 -- The first number below another that passes a test.
-use Rattle.std.proofs.Common.{◌≡◌, ℕ, zero, suc, ◌<◌, Bool, true, false, ◌&&◌, List, [], ◌∷◌, ◌++◌, filter, refl, ap, sym, subst, ◌∙◌, arith, ◌⊎◌, inl, inr, ⊎_elim}
+use Rattle.std.proofs.Common.{◌≡◌, ℕ, zero, suc, ◌<◌, Bool, true, false, ◌&&◌, List, [], ◌∷◌, ◌++◌, filter, refl, subst, ◌∙◌, arith, ⊎_elim}
 use Rattle.tam_word.specs.Lists.{first_of, below}
 use Rattle.tam_word.proofs.Each.{last-or_before}
 

@@ -1,5 +1,5 @@
 -- The state before the first event.
-use Rattle.std.proofs.Common.{◌≡◌, ◌∙◌, ℕ, zero, suc, ◌<◌, List, [], ◌∷◌, ◌++◌, length, map, take, get_or, refl, ap, sym, arith, length-append}
+use Rattle.std.proofs.Common.{◌≡◌, ◌∙◌, ℕ, zero, suc, ◌<◌, List, [], ◌∷◌, ◌++◌, length, map, take, get_or, refl, ap, arith, length-append}
 use Rattle.std.specs.Prelude.{zip, flat_map}
 use Rattle.std.proofs.Math.Seq.{take-suc}
 use Rattle.std.proofs.lemmas.Grind.{flat_map-append}
@@ -11,7 +11,7 @@ use Rattle.tam_msgs.specs.Messages.{outside}
 use Rattle.tam_graph.specs.Graphs.{Graph, code_of}
 use Rattle.tam_flow.specs.Worlds.{ActivationState, begun, argument_message}
 use Rattle.tam_eval.specs.Takers.{starters_of}
-use Rattle.tam_eval.specs.Eval.{EvalState, opening_state}
+use Rattle.tam_eval.specs.Events.{opening_state}
 use Rattle.tam_eval.proofs.Joins.{joins-opening_starters}
 
 -- a pair more behind two lists that are equally long

@@ -10,11 +10,13 @@ use Rattle.tam_msgs.specs.declared.message.Message.TheVariants.{Word as Carry, C
 use Rattle.tam_msgs.specs.Runs.{End, Next, Ended}
 use Rattle.tam_msgs.specs.declared.message.Message.{Message}
 use Rattle.tam_graph.specs.Graphs.{Graph, code_of}
-use Rattle.tam_flow.specs.Worlds.{World, ActivationState, activation_at, its_code, has_word, has_entered, with_word, with_block, got, entered, changes, sends_only, begun, Effect, Fault, Went, Faulted, delivered}
+use Rattle.tam_flow.specs.Worlds.{World, ActivationState, its_code, has_word, has_entered, with_word, with_block, got, entered, changes, sends_only, begun, Effect, Fault, Went, Faulted, delivered}
 use Rattle.tam_eval.proofs.Accessors.{with_begun}
-use Rattle.tam_eval.specs.GraphRuns.{is_enabled, joins, refusal, delivered_unless, end_of}
+use Rattle.tam_eval.specs.GraphRuns.{is_enabled, refusal, delivered_unless, end_of}
 use Rattle.tam_eval.specs.Takers.{takers_of, firers_in, takers_now, firers_now, starters_of}
-use Rattle.tam_eval.specs.Eval.{EvalState, activation_of, activations_of, effected, state_with}
+use Rattle.tam_eval.specs.Machines.{EvalState, activation_of, activations_of}
+use Rattle.tam_eval.specs.Effects.{effected}
+use Rattle.tam_eval.specs.Events.{state_with}
 use Rattle.tam_eval.specs.declared.activation.Activation.{Activation}
 use Rattle.tam_eval.proofs.Joins.{joins-got_any, joins-entered_any, joins-unchanged, joins-begun_starters, joins-arrays, joins-arrays_alone}
 

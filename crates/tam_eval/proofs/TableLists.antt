@@ -9,7 +9,7 @@ use Rattle.tam_word.proofs.Each.{get-left, get-last, get-past, last-or_before}
 use Rattle.tam_eval.specs.declared.table.Table.{Table}
 use Rattle.tam_eval.specs.Tables.{IsTableOf, AreTables}
 use Rattle.tam_graph.specs.Graphs.{Graph, Code, code_of, or_code, no_code, kind_at, block_at, or_kind, or_block, operands_of, fires, node_numbers}
-use Rattle.tam_eval.specs.Takers.{takers_of, firers_in, starters_of, is_none}
+use Rattle.tam_eval.specs.Takers.{firers_in}
 use Rattle.tam_eval.proofs.TableLemmas.{filter-last}
 
 -- the lists are those of the nodes below x

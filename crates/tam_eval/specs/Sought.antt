@@ -1,5 +1,5 @@
 -- Which node is looked for, by what it does.
-use Rattle.std.specs.Prelude.{ℕ, Bool, false, ◌==◌, ◌&&◌, List}
+use Rattle.std.specs.Prelude.{ℕ, Bool, ◌==◌, ◌&&◌, List}
 use Rattle.tam_word.specs.Lists.{first_of}
 use Rattle.tam_graph.specs.declared.kind.Kind.{Kind}
 use Rattle.tam_graph.specs.Graphs.{Code, kind_at, block_at, node_numbers, is_param, is_ret, is_merge, is_enter}

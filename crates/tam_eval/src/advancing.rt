@@ -3,7 +3,8 @@ ghost use Rattle.std.specs.Prelude.{ℕ, List, ◌≡◌, ◌+◌, ◌-◌, ◌<
 ghost use Rattle.tam_msgs.specs.Messages.{AreLimits};
 ghost use Rattle.tam_msgs.specs.declared.item.Item.{Item};
 ghost use Rattle.tam_eval.specs.GraphRuns.{fired_first, delivered_at, counted, graph_step};
-ghost use Rattle.tam_eval.specs.Eval.{state_of, state_with, CountsEvent, IsOutcome, IsRun, IsDelivery, IsAnswerOf, next_choice, IsWithinLimits, LeavesAtQuiet};
+ghost use Rattle.tam_eval.specs.Machines.{state_of, CountsEvent, IsWithinLimits};
+ghost use Rattle.tam_eval.specs.Events.{state_with, IsOutcome, IsRun, IsDelivery, IsAnswerOf, next_choice, LeavesAtQuiet};
 
 use crate::delivering::deliver;
 use crate::firing::fire;

@@ -5,7 +5,9 @@ ghost use Rattle.tam_msgs.specs.Messages.{answers, AreLimits};
 ghost use Rattle.tam_msgs.specs.declared.item.Item.{Item};
 ghost use Rattle.tam_flow.specs.Worlds.{sends_only};
 ghost use Rattle.tam_eval.specs.GraphRuns.{refusal, delivered_unless};
-ghost use Rattle.tam_eval.specs.Eval.{EvalState, state_of, state_with, effected, IsOutcome, Grows, Fits, IsDelivery, IsWithinLimits, with_begun};
+ghost use Rattle.tam_eval.specs.Machines.{EvalState, state_of, Grows, Fits, IsWithinLimits};
+ghost use Rattle.tam_eval.specs.Events.{state_with, IsOutcome, IsDelivery};
+ghost use Rattle.tam_eval.specs.Effects.{effected, with_begun};
 
 use crate::activation::Activation;
 use crate::machine::Machine;

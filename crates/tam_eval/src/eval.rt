@@ -5,7 +5,8 @@ ghost use Rattle.tam_istr.specs.Cells.{cells_used};
 ghost use Rattle.tam_msgs.specs.Messages.{AreLimits};
 ghost use Rattle.tam_graph.specs.Graphs.{AreArguments};
 ghost use Rattle.tam_flow.specs.Worlds.{argument_message};
-ghost use Rattle.tam_eval.specs.Eval.{state_of, opening_state, IsWithinLimits, IsEvent};
+ghost use Rattle.tam_eval.specs.Machines.{state_of, IsWithinLimits};
+ghost use Rattle.tam_eval.specs.Events.{opening_state, IsEvent};
 
 use crate::activation::Activation;
 use crate::advancing::advance;
@@ -33,12 +34,13 @@ pub struct Eval<'g> {
 }
 
 impl<'g> Model for Eval<'g> {
-    ghost use Rattle.tam_eval.specs.Eval.{EvalRun, state_of};
+    ghost use Rattle.tam_eval.specs.Events.{EvalRun};
+    ghost use Rattle.tam_eval.specs.Machines.{state_of};
 
     ghost Value = { EvalRun };
 
     ghost use Rattle.tam_msgs.specs.Messages.{AreLimits};
-    ghost use Rattle.tam_eval.specs.Eval.{IsWithinLimits};
+    ghost use Rattle.tam_eval.specs.Machines.{IsWithinLimits};
 
     ghost view = { λ e. record { graph = e.program; limits = e.limits; state = state_of e.machine; stopped = e.stopped } };
 

@@ -3,7 +3,8 @@ ghost use Rattle.std.specs.Prelude.{ℕ, ◌≡◌, [], ◌∷◌, ◌++◌, len
 ghost use Rattle.tam_word.specs.Lists.{changed_at};
 ghost use Rattle.tam_graph.specs.Graphs.{Graph};
 ghost use Rattle.tam_flow.specs.Worlds.{with_word, with_block, got, all_got, entered, changes, sends_only};
-ghost use Rattle.tam_eval.specs.Eval.{activations_of, state_of, effected, sizes_of};
+ghost use Rattle.tam_eval.specs.Machines.{activations_of, state_of, sizes_of};
+ghost use Rattle.tam_eval.specs.Effects.{effected};
 
 use crate::activation::Activation;
 use crate::machine::{Machine, code_at, has_entered, has_word, ready_among};

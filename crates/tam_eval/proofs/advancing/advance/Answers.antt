@@ -1,11 +1,12 @@
-use Rattle.std.proofs.Common.{◌≡◌, sym, subst, false, ◌==◌, List, length}
+use Rattle.std.proofs.Common.{◌≡◌, sym, subst, false, ◌==◌, List}
 use Rattle.tam_word.proofs.Tests.{differs-number}
 use Rattle.tam_msgs.specs.declared.item.Item.{Item}
 use Rattle.tam_msgs.specs.declared.choice.Choice.{Choice}
 use Rattle.tam_msgs.specs.declared.choice.Choice.TheVariants.{Run as Choose_run, Deliver as Choose_delivery}
-use Rattle.tam_msgs.specs.Runs.{choice, Outcome}
-use Rattle.tam_eval.specs.GraphRuns.{GraphState, some_ready}
-use Rattle.tam_eval.specs.Eval.{state_of, IsOutcome, IsAnswerOf}
+use Rattle.tam_msgs.specs.Runs.{Outcome}
+use Rattle.tam_eval.specs.GraphRuns.{GraphState}
+use Rattle.tam_eval.specs.Machines.{state_of}
+use Rattle.tam_eval.specs.Events.{IsOutcome, IsAnswerOf}
 use Rattle.tam_eval.proofs.Choosing.{chosen-is, step-run, step-deliver, run-goes, delivery-goes}
 use Rattle.tam_eval.proofs.advancing.advance.Goals as goal
 

@@ -1,12 +1,11 @@
-use Rattle.std.proofs.Common.{◌≡◌, ◌∙◌, ap, sym, not, ◌++◌, ◌∷◌, [], ℕ, List, length, map}
+use Rattle.std.proofs.Common.{◌≡◌, ◌∙◌, ap, sym, not, ◌++◌, ◌∷◌, [], List, length, map}
 use Rattle.std.proofs.lemmas.List.{length-map, map-append}
-use Rattle.tam_msgs.specs.declared.message.Message.{Message}
 use Rattle.tam_msgs.specs.declared.message.Message.TheVariants.{Word as Carry}
 use Rattle.tam_graph.specs.Graphs.{code_of}
 use Rattle.tam_flow.specs.Worlds.{ActivationState, begun}
 use Rattle.tam_eval.specs.Takers.{starters_of}
 use Rattle.tam_eval.specs.declared.activation.Activation.{Activation}
-use Rattle.tam_eval.specs.Eval.{activation_of, activations_of, state_of}
+use Rattle.tam_eval.specs.Machines.{activation_of, activations_of, state_of}
 use Rattle.tam_eval.proofs.Stepping.{ok_holds, state-begun}
 use Rattle.tam_eval.proofs.delivering.begin.Goals as goal
 

@@ -1,8 +1,7 @@
-use Rattle.std.proofs.Common.{◌≡◌, ◌≤◌, ◌+◌, ◌∙◌, ap, not, ◌++◌, ◌∷◌, [], ℕ, refl, arith}
+use Rattle.std.proofs.Common.{◌≡◌, ◌≤◌, ◌+◌, ◌∙◌, ap, not, ◌++◌, ◌∷◌, [], refl, arith}
 use Rattle.tam_istr.specs.Cells.{cells_used}
 use Rattle.tam_msgs.specs.declared.message.Message.TheVariants.{Word as Carry, Cells as Make}
-use Rattle.tam_eval.specs.GraphRuns.{refusal}
-use Rattle.tam_eval.specs.Eval.{state_of}
+use Rattle.tam_eval.specs.Machines.{state_of}
 use Rattle.tam_eval.proofs.Stepping.{ok_holds, cells-allowed, state-made, outcome-went}
 use Rattle.tam_eval.proofs.delivering.deliver_cells.Goals as goal
 

@@ -1,7 +1,7 @@
-use Rattle.std.proofs.Common.{◌≡◌, ◌∙◌, ap, not, ◌++◌, ◌∷◌, [], ℕ, refl}
+use Rattle.std.proofs.Common.{◌≡◌, ◌∙◌, ap, not, ◌++◌, ◌∷◌, [], refl}
 use Rattle.tam_msgs.specs.declared.message.Message.TheVariants.{Word as Carry, Fetch as Ask_cell}
 use Rattle.tam_flow.specs.Worlds.{accessed}
-use Rattle.tam_eval.specs.Eval.{state_of}
+use Rattle.tam_eval.specs.Machines.{state_of}
 use Rattle.tam_eval.proofs.Stepping.{ok_holds, state-sent, state-arrays, outcome-went}
 use Rattle.tam_eval.proofs.delivering.deliver_fetch.Goals as goal
 

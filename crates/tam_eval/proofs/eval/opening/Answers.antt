@@ -1,4 +1,4 @@
-use Rattle.std.proofs.Common.{◌≡◌, ◌∙◌, ap, not, ◌++◌, ◌∷◌, [], ℕ, List, map}
+use Rattle.std.proofs.Common.{◌≡◌, ◌∙◌, ap, not, ◌∷◌, [], ℕ, List, map}
 use Rattle.std.specs.Prelude.{zip, flat_map, length}
 use Rattle.tam_word.specs.Lists.{below}
 use Rattle.tam_istr.specs.CellAnswers.{CellArrays}
@@ -7,7 +7,7 @@ use Rattle.tam_graph.specs.Graphs.{code_of}
 use Rattle.tam_flow.specs.Worlds.{ActivationState, begun, argument_message}
 use Rattle.tam_eval.specs.Takers.{starters_of}
 use Rattle.tam_eval.specs.declared.activation.Activation.{Activation}
-use Rattle.tam_eval.specs.Eval.{activations_of}
+use Rattle.tam_eval.specs.Machines.{activations_of}
 use Rattle.tam_eval.proofs.Opening.{opening-is}
 use Rattle.tam_eval.proofs.eval.opening.Goals as goal
 

@@ -1,6 +1,5 @@
-use Rattle.std.proofs.Common.{◌≡◌, ◌∙◌, ap, ◌++◌, List, add-one}
+use Rattle.std.proofs.Common.{add-one}
 use Rattle.std.proofs.lemmas.List.{append_assoc}
-use Rattle.tam_msgs.specs.declared.message.Message.{Message}
 use Rattle.tam_eval.proofs.Opening.{arguments-next}
 use Rattle.tam_eval.proofs.eval.send_arguments.Goals as goal
 

@@ -1,8 +1,7 @@
-use Rattle.std.proofs.Common.{◌≡◌, ◌∙◌, ap, sym, ℕ, None}
+use Rattle.std.proofs.Common.{◌≡◌, sym, None}
 use Rattle.std.specs.Prelude.{slice_get}
-use Rattle.tam_graph.specs.Graphs.{Graph, code_of}
 use Rattle.tam_flow.specs.Worlds.{its_code, activation_at}
-use Rattle.tam_eval.specs.Eval.{state_of}
+use Rattle.tam_eval.specs.Machines.{state_of}
 use Rattle.tam_eval.proofs.Unfed.{fired-nowhere}
 use Rattle.tam_eval.proofs.firing.fire.Goals as goal
 

@@ -1,5 +1,5 @@
 use Rattle.tam_graph.specs.declared.kind.Kind.TheVariants.{Arg}
-use Rattle.tam_eval.specs.Eval.{state_of}
+use Rattle.tam_eval.specs.Machines.{state_of}
 use Rattle.tam_eval.proofs.Unfed.{unfed}
 use Rattle.tam_eval.proofs.firing.fire_arg.Goals as goal
 

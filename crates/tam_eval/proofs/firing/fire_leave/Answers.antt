@@ -1,5 +1,5 @@
 use Rattle.tam_graph.specs.declared.kind.Kind.TheVariants.{Leave}
-use Rattle.tam_eval.specs.Eval.{state_of}
+use Rattle.tam_eval.specs.Machines.{state_of}
 use Rattle.tam_eval.proofs.Unfed.{unfed}
 use Rattle.tam_eval.proofs.firing.fire_leave.Goals as goal
 

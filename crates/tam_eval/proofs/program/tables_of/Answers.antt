@@ -1,5 +1,4 @@
-use Rattle.std.proofs.Common.{◌≡◌, ◌∙◌, ap, subst, sym, not, true, ◌++◌, ◌∷◌, [], ℕ, List, length, is_ok, add-one, arith}
-use Rattle.tam_eval.specs.declared.table.Table.{Table}
+use Rattle.std.proofs.Common.{◌≡◌, ◌∙◌, ap, subst, not, true, ◌++◌, ◌∷◌, [], length, is_ok, add-one, arith}
 use Rattle.tam_eval.proofs.TableLists.{AreTablesBelow, tables-next, tables-all}
 use Rattle.tam_eval.proofs.program.tables_of.Goals as goal
 

@@ -3,7 +3,7 @@ use Rattle.tam_graph.specs.Graphs.{code_of}
 use Rattle.tam_flow.specs.Worlds.{activation_at, has_word}
 use Rattle.tam_eval.specs.GraphRuns.{is_enabled}
 use Rattle.tam_eval.specs.Takers.{takers_of, takers_now}
-use Rattle.tam_eval.specs.Eval.{state_of, activations_of, world_with}
+use Rattle.tam_eval.specs.Machines.{state_of, activations_of, world_with}
 use Rattle.tam_eval.proofs.Stepping.{on_ok, state-got, ready-had, takers-first}
 use Rattle.tam_eval.proofs.steps.give_word.Goals as goal
 

@@ -1,7 +1,7 @@
-use Rattle.std.proofs.Common.{◌≡◌, sym, length, ◌≤◌, ◌<◌, ap, arith}
+use Rattle.std.proofs.Common.{◌≡◌, sym, length, ◌≤◌, ◌<◌, arith}
 use Rattle.std.proofs.lemmas.List.{length-map}
-use Rattle.tam_flow.specs.Worlds.{with_word, with_block}
-use Rattle.tam_eval.specs.Eval.{activation_of, activations_of}
+use Rattle.tam_flow.specs.Worlds.{with_block}
+use Rattle.tam_eval.specs.Machines.{activation_of, activations_of}
 use Rattle.tam_eval.proofs.Stepping.{on_ok, changed_at-past, activations-changed}
 use Rattle.tam_eval.proofs.steps.put_block.Goals as goal
 

@@ -1,6 +1,6 @@
 use Rattle.std.proofs.Common.{◌≡◌, ◌∙◌, ap, not, ◌++◌, ◌∷◌, [], List}
 use Rattle.tam_msgs.specs.declared.message.Message.{Message}
-use Rattle.tam_eval.specs.Eval.{EvalState, state_of}
+use Rattle.tam_eval.specs.Machines.{EvalState, state_of}
 use Rattle.tam_eval.proofs.Stepping.{ok_holds, state-sent}
 use Rattle.tam_eval.proofs.steps.send.Goals as goal
 

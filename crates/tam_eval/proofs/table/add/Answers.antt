@@ -3,7 +3,7 @@ use Rattle.std.specs.declared.vec.Vec.{Vec}
 use Rattle.std.specs.declared.alloc.Global.{Global}
 use Rattle.std.proofs.lemmas.Option.{slice_get_read}
 use Rattle.tam_word.specs.Lists.{where_so}
-use Rattle.std.specs.Prelude.{◌==◌, slice_get, Some, Option, refl}
+use Rattle.std.specs.Prelude.{◌==◌, slice_get, Some, refl}
 use Rattle.tam_eval.specs.Tables.{listed, items_or_none}
 use Rattle.tam_eval.proofs.TableLemmas.{listed-longer, listed-added}
 use Rattle.tam_eval.proofs.table.add.Goals as goal

@@ -1,5 +1,6 @@
 use Rattle.std.proofs.Common.{refl, Ok, Err, Some}
-use Rattle.tam_eval.specs.Eval.{EvalRun, state_of}
+use Rattle.tam_eval.specs.Events.{EvalRun}
+use Rattle.tam_eval.specs.Machines.{state_of}
 use Rattle.tam_eval.proofs.Choosing.{first-event}
 use Rattle.tam_eval.proofs.eval.Eval.event.Goals as goal
 

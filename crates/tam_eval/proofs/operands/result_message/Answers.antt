@@ -3,9 +3,9 @@ use Rattle.tam_graph.specs.Graphs.{Graph, Code, code_of, node_where, is_ret}
 use Rattle.tam_flow.specs.Worlds.{its_code, activation_at}
 use Rattle.tam_eval.specs.Sought.{sought_in}
 use Rattle.tam_eval.specs.declared.nodes.Sought.TheVariants.{Ret}
-use Rattle.tam_eval.specs.Eval.{world_with}
+use Rattle.tam_eval.specs.Machines.{world_with}
 use Rattle.tam_eval.proofs.Unfed.{message-inside}
-use Rattle.tam_eval.proofs.firing.result_message.Goals as goal
+use Rattle.tam_eval.proofs.operands.result_message.Goals as goal
 
 pub returns-in-Some : goal.returns-in-Some
 returns-in-Some c =

@@ -11,14 +11,14 @@ ghost use Rattle.tam_eval.specs.Events.{opening_state, IsEvent};
 use crate::activation::Activation;
 use crate::advancing::advance;
 use crate::delivering::ready_all;
+use crate::finding::{Sought, find_node};
 use crate::machine::Machine;
-use crate::nodes::{Sought, find_node};
 use crate::program::Program;
 use std::alloc::Global;
 use std::collections::VecDeque;
 use std::marker::Model;
 use tam_edge::NoMemory;
-use tam_graph::{Accepted, Graph};
+use tam_graph::Accepted;
 use tam_istr::Cells;
 use tam_msgs::{Counts, Limits, Message, Order, Pending, Step, Stop};
 
@@ -123,7 +123,7 @@ fn opening(
     let mut ready = VecDeque::new(alloc);
     ready_all(&mut ready, 0, program.starters(main))?;
     let mut pending = Pending::new(alloc);
-    send_arguments(program.graph(), main, args, &mut pending)?;
+    send_arguments(program, main, args, &mut pending)?;
     Ok(Machine {
         alloc,
         activations,
@@ -136,11 +136,11 @@ fn opening(
 }
 
 // The message of an argument of the root.
-fn argument_message(graph: &Graph, main: u32, place: u32, word: u32) -> Option<Message>
-    requires main { main ≡ graph.now.main }
-    ensures { option_to_list result ≡ argument_message graph.now (place, word) }
+fn argument_message(program: &Program<'_>, main: u32, place: u32, word: u32) -> Option<Message>
+    requires main { main ≡ program.now.main }
+    ensures { option_to_list result ≡ argument_message program.now (place, word) }
 {
-    match find_node(graph, main, Sought::Param { place }) {
+    match find_node(program, main, Sought::Param { place }) {
         Some(inlet) => Some(Message::Word {
             frame: 0,
             inlet,
@@ -167,17 +167,20 @@ fn send_some(pending: &mut Pending, message: Option<Message>) -> Result<(), NoMe
 
 // One message per argument, in the order of places.
 fn send_arguments(
-    graph: &Graph,
+    program: &Program<'_>,
     main: u32,
     args: &[u32],
     pending: &mut Pending,
 ) -> Result<(), NoMemory>
-    requires main { main ≡ graph.now.main }
+    requires main { main ≡ program.now.main }
     requires args { length args.now ≤ 64 }
-    ensures { OnOk result (pending.new.messages ≡ pending.old.messages ++ flat_map (argument_message graph.now) (zip (below (length args.now)) args.now)) }
+    ensures { OnOk result (pending.new.messages ≡ pending.old.messages ++ flat_map (argument_message program.now) (zip (below (length args.now)) args.now)) }
 {
     for (place, word) in args.iter().enumerate() {
-        send_some(pending, argument_message(graph, main, place as u32, *word))?;
+        send_some(
+            pending,
+            argument_message(program, main, place as u32, *word),
+        )?;
     }
     Ok(())
 }

@@ -7,8 +7,9 @@ ghost use Rattle.tam_flow.specs.Worlds.{activation_at, words_of, fired, result_m
 ghost use Rattle.tam_eval.specs.Machines.{world_with, state_of, sizes_of};
 ghost use Rattle.tam_eval.specs.Effects.{one_listed, two_listed, three_listed, effected, fired_as};
 
+use crate::finding::{find_enter, find_merge};
 use crate::machine::{Machine, code_at};
-use crate::nodes::{block_at, chosen_branch, find_enter, find_merge, node_at, test_of};
+use crate::nodes::{block_at, chosen_branch, node_at, test_of};
 use crate::operands::{
     argument_message, one_word, result_message, site_of, three_words, two_words,
 };
@@ -254,7 +255,7 @@ fn fire_switch(
                 program,
                 machine,
                 i,
-                find_enter(program.graph(), code, block, place),
+                find_enter(program, code, block, place),
                 v,
             )
         }
@@ -281,7 +282,7 @@ fn fire_leave(
                 program,
                 machine,
                 i,
-                find_merge(program.graph(), code, block, place),
+                find_merge(program, code, block, place),
                 v,
             )
         }

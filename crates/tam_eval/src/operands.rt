@@ -7,8 +7,9 @@ ghost use Rattle.tam_eval.specs.Machines.{world_with};
 ghost use Rattle.tam_eval.specs.Effects.{one_listed, two_listed, three_listed};
 
 use crate::activation::Activation;
+use crate::finding::{Sought, find_node};
 use crate::machine::{call_at, caller_at, code_at, word_at};
-use crate::nodes::{Sought, callee_of, find_node};
+use crate::nodes::callee_of;
 use crate::program::Program;
 use tam_msgs::Message;
 
@@ -73,7 +74,7 @@ pub(crate) fn result_message(
     }
     let call = call_at(activations, i);
     match find_node(
-        program.graph(),
+        program,
         code_at(activations, frame),
         Sought::Ret { call, place },
     ) {
@@ -103,7 +104,7 @@ pub(crate) fn argument_message(
     ensures { option_to_list result ≡ map (λ y. Message.Word frame y word) (node_where (code_of program.now (callee_of (code_of program.now code) call)) (is_param place)) }
 {
     match find_node(
-        program.graph(),
+        program,
         callee_of(program.graph(), code, call),
         Sought::Param { place },
     ) {

@@ -1,10 +1,11 @@
 -- What an event does to the state that the evaluator keeps.
-use Rattle.std.specs.Prelude.{ℕ, List, [], ◌∷◌, ◌++◌, Option, Some, None}
+use Rattle.std.specs.Prelude.{ℕ, List, [], ◌∷◌, ◌++◌, Option, Some, None, ◌≡◌, Result, OnOk}
 use Rattle.tam_graph.specs.declared.kind.Kind.{Kind}
 use Rattle.tam_graph.specs.Graphs.{Graph, operands_of}
 use Rattle.tam_flow.specs.Worlds.{World, Effect, begun, changes, its_code, words_of, firing_of}
 use Rattle.tam_eval.specs.GraphRuns.{joins}
-use Rattle.tam_eval.specs.Machines.{EvalState}
+use Rattle.tam_eval.specs.Machines.{EvalState, state_of}
+use Rattle.tam_eval.specs.declared.machine.Machine.{Machine}
 
 -- the state after an event with this effect
 abbrev pub effected : Graph → EvalState → Effect → EvalState
@@ -35,3 +36,7 @@ three_listed (Some p) = (p.0 ∷ p.1 ∷ p.2 ∷ []) ∷ []
 -- the world with an activation more
 abbrev pub with_begun : World → ℕ → ℕ → ℕ → World
 with_begun w k f x = record w { activations = w.activations ++ begun k f x ∷ [] }
+
+-- where the call went well, the state is the one after this effect on its world
+abbrev pub HasEffect : {T E : Type 0} → Graph → Machine → Machine → (World → Effect) → Result T E → Type 0
+HasEffect g old new effect result = OnOk result (state_of new ≡ effected g (state_of old) (effect (state_of old).world))

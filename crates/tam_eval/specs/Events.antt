@@ -1,5 +1,5 @@
 -- What one event of a run answers, and what contracts see of a run.
-use Rattle.std.specs.Prelude.{ℕ, List, [], ◌∷◌, ◌++◌, ◌≡◌, flat_map, zip, length, Option, Some, None, Result, Ok, Err}
+use Rattle.std.specs.Prelude.{ℕ, List, [], ◌∷◌, ◌++◌, ◌≡◌, flat_map, zip, length, Option, Some, None, Result, Ok, Err, slice_get}
 use Rattle.tam_msgs.specs.declared.item.Item.{Item}
 use Rattle.tam_msgs.specs.declared.limits.Limits.{Limits}
 use Rattle.tam_msgs.specs.declared.step.Step.{Step}
@@ -12,8 +12,10 @@ use Rattle.tam_msgs.specs.Runs.{choice, Quiet, Double_write, Out_of_range, Frame
 use Rattle.tam_word.specs.Lists.{below}
 use Rattle.tam_graph.specs.Graphs.{Graph}
 use Rattle.tam_flow.specs.Worlds.{opening, argument_message}
-use Rattle.tam_eval.specs.GraphRuns.{GraphState, joins, nothing_begun, some_ready, graph_step}
-use Rattle.tam_eval.specs.Machines.{EvalState}
+use Rattle.tam_eval.specs.GraphRuns.{GraphState, joins, nothing_begun, some_ready, graph_step, refusal, delivered_unless, fired_first, counted, delivered_at}
+use Rattle.tam_eval.specs.Machines.{EvalState, state_of}
+use Rattle.tam_eval.specs.declared.machine.Machine.{Machine}
+use Rattle.tam_msgs.specs.declared.message.Message.{Message}
 
 -- with the order list and what was printed, which the caller keeps
 abbrev pub state_with : EvalState → List Item → List (ℕ × ℕ) → GraphState
@@ -93,3 +95,27 @@ IsEvent old new order order' result (Some stop) = (result ≡ Err stop) × (new 
 IsEvent old new order order' result None =
     ((printed : List (ℕ × ℕ)) → IsOutcome (graph_step old.graph old.limits (state_with old.state order printed)) new.state order' printed result)
     × (new.stopped ≡ stop_of result) × LeavesAtQuiet old.state new.state order order' result × IsAnswerOf (next_choice old.state order) result
+
+-- the answer is what comes of the delivery of a message
+abbrev pub Delivers : Graph → Limits → Machine → Machine → Message → Result Step Stop → Type 0
+Delivers g limits old new m result =
+    (order : List Item) (printed : List (ℕ × ℕ))
+    → IsOutcome (delivered_unless g (state_with (state_of old) order printed) m (refusal limits (state_of old).world m)) (state_of new) order printed result
+
+-- the answer is what comes of the firing of what became ready first, counted as an event behind which the order goes on
+abbrev pub FiresFirst : Graph → Machine → Machine → Result Step Stop → Type 0
+FiresFirst g old new result =
+    (order before : List Item) (printed : List (ℕ × ℕ))
+    → IsOutcome (fired_first g (counted (state_with (state_of old) before printed) order) (state_of old).ready) (state_of new) order printed result
+
+-- the answer is what comes of the delivery of the message at a place, counted likewise
+abbrev pub DeliversAt : Graph → Limits → Machine → Machine → ℕ → Result Step Stop → Type 0
+DeliversAt g limits old new place result =
+    (order before : List Item) (printed : List (ℕ × ℕ))
+    → IsOutcome (delivered_at g limits (counted (state_with (state_of old) before printed) order) place (slice_get (state_of old).pending place))
+    (state_of new) order printed result
+
+-- the answer is what comes of one step
+abbrev pub Advances : Graph → Limits → Machine → Machine → List Item → List Item → Result Step Stop → Type 0
+Advances g limits old new order order' result =
+    (printed : List (ℕ × ℕ)) → IsOutcome (graph_step g limits (state_with (state_of old) order printed)) (state_of new) order' printed result

@@ -5,7 +5,7 @@ ghost use Rattle.tam_msgs.specs.Messages.{site};
 ghost use Rattle.tam_graph.specs.Graphs.{code_of, callee_of, node_where, is_param};
 ghost use Rattle.tam_flow.specs.Worlds.{activation_at, words_of, fired, result_message};
 ghost use Rattle.tam_eval.specs.Machines.{world_with, state_of, sizes_of};
-ghost use Rattle.tam_eval.specs.Effects.{one_listed, two_listed, three_listed, effected, fired_as};
+ghost use Rattle.tam_eval.specs.Effects.{one_listed, two_listed, three_listed, effected, fired_as, HasEffect};
 
 use crate::finding::{find_enter, find_merge};
 use crate::machine::{Machine, code_at};
@@ -29,7 +29,7 @@ fn fire_op(
     a: u32,
     b: u32,
 ) -> Result<(), NoMemory>
-    ensures value { OnOk result (state_of machine.new ≡ effected program.now (state_of machine.old) (fired_as program.now (state_of machine.old).world i x (Kind.Op op a b))) }
+    ensures value { HasEffect program.now machine.old machine.new (λ w. fired_as program.now w i x (Kind.Op op a b)) result }
     ensures sizes { sizes_of machine.new ≡ sizes_of machine.old }
 {
     match two_words(&machine.activations, i, a, b) {
@@ -46,7 +46,7 @@ fn fire_seq(
     a: u32,
     b: u32,
 ) -> Result<(), NoMemory>
-    ensures value { OnOk result (state_of machine.new ≡ effected program.now (state_of machine.old) (fired_as program.now (state_of machine.old).world i x (Kind.Seq a b))) }
+    ensures value { HasEffect program.now machine.old machine.new (λ w. fired_as program.now w i x (Kind.Seq a b)) result }
     ensures sizes { sizes_of machine.new ≡ sizes_of machine.old }
 {
     match two_words(&machine.activations, i, a, b) {
@@ -62,7 +62,7 @@ fn fire_call(
     x: u32,
     callee: u32,
 ) -> Result<(), NoMemory>
-    ensures value { OnOk result (state_of machine.new ≡ effected program.now (state_of machine.old) (fired_as program.now (state_of machine.old).world i x (Kind.Call callee))) }
+    ensures value { HasEffect program.now machine.old machine.new (λ w. fired_as program.now w i x (Kind.Call callee)) result }
     ensures sizes { sizes_of machine.new ≡ sizes_of machine.old }
 {
     send(
@@ -84,7 +84,7 @@ fn fire_arg(
     place: u32,
     a: u32,
 ) -> Result<(), NoMemory>
-    ensures value { OnOk result (state_of machine.new ≡ effected program.now (state_of machine.old) (fired_as program.now (state_of machine.old).world i x (Kind.Arg call place a))) }
+    ensures value { HasEffect program.now machine.old machine.new (λ w. fired_as program.now w i x (Kind.Arg call place a)) result }
     ensures sizes { sizes_of machine.new ≡ sizes_of machine.old }
 {
     let code = code_at(&machine.activations, i);
@@ -105,7 +105,7 @@ fn fire_give(
     place: u32,
     a: u32,
 ) -> Result<(), NoMemory>
-    ensures value { OnOk result (state_of machine.new ≡ effected program.now (state_of machine.old) (fired_as program.now (state_of machine.old).world i x (Kind.Give place a))) }
+    ensures value { HasEffect program.now machine.old machine.new (λ w. fired_as program.now w i x (Kind.Give place a)) result }
     ensures sizes { sizes_of machine.new ≡ sizes_of machine.old }
 {
     match one_word(&machine.activations, i, a) {
@@ -124,7 +124,7 @@ fn fire_alloc(
     x: u32,
     len: u32,
 ) -> Result<(), NoMemory>
-    ensures value { OnOk result (state_of machine.new ≡ effected program.now (state_of machine.old) (fired_as program.now (state_of machine.old).world i x (Kind.Alloc len))) }
+    ensures value { HasEffect program.now machine.old machine.new (λ w. fired_as program.now w i x (Kind.Alloc len)) result }
     ensures sizes { sizes_of machine.new ≡ sizes_of machine.old }
 {
     match one_word(&machine.activations, i, len) {
@@ -152,7 +152,7 @@ fn fire_fetch(
     requires code { code ≡ (activation_at (state_of machine.old).world i).code }
     requires small { code < 256 }
     requires node { x < 1024 }
-    ensures value { OnOk result (state_of machine.new ≡ effected program.now (state_of machine.old) (fired_as program.now (state_of machine.old).world i x (Kind.Fetch array index))) }
+    ensures value { HasEffect program.now machine.old machine.new (λ w. fired_as program.now w i x (Kind.Fetch array index)) result }
     ensures sizes { sizes_of machine.new ≡ sizes_of machine.old }
 {
     match two_words(&machine.activations, i, array, index) {
@@ -186,7 +186,7 @@ fn fire_store(
     requires code { code ≡ (activation_at (state_of machine.old).world i).code }
     requires small { code < 256 }
     requires node { x < 1024 }
-    ensures value { OnOk result (state_of machine.new ≡ effected program.now (state_of machine.old) (fired_as program.now (state_of machine.old).world i x (Kind.Store array index a))) }
+    ensures value { HasEffect program.now machine.old machine.new (λ w. fired_as program.now w i x (Kind.Store array index a)) result }
     ensures sizes { sizes_of machine.new ≡ sizes_of machine.old }
 {
     match three_words(&machine.activations, i, array, index, a) {
@@ -215,7 +215,7 @@ fn fire_cond(
     yes: u32,
     no: u32,
 ) -> Result<(), NoMemory>
-    ensures value { OnOk result (state_of machine.new ≡ effected program.now (state_of machine.old) (fired_as program.now (state_of machine.old).world i x (Kind.Cond test yes no))) }
+    ensures value { HasEffect program.now machine.old machine.new (λ w. fired_as program.now w i x (Kind.Cond test yes no)) result }
     ensures sizes { sizes_of machine.new ≡ sizes_of machine.old }
 {
     let code = code_at(&machine.activations, i);
@@ -239,7 +239,7 @@ fn fire_switch(
     place: u32,
     a: u32,
 ) -> Result<(), NoMemory>
-    ensures value { OnOk result (state_of machine.new ≡ effected program.now (state_of machine.old) (fired_as program.now (state_of machine.old).world i x (Kind.Switch cond place a))) }
+    ensures value { HasEffect program.now machine.old machine.new (λ w. fired_as program.now w i x (Kind.Switch cond place a)) result }
     ensures sizes { sizes_of machine.new ≡ sizes_of machine.old }
 {
     let code = code_at(&machine.activations, i);
@@ -271,7 +271,7 @@ fn fire_leave(
     place: u32,
     a: u32,
 ) -> Result<(), NoMemory>
-    ensures value { OnOk result (state_of machine.new ≡ effected program.now (state_of machine.old) (fired_as program.now (state_of machine.old).world i x (Kind.Leave place a))) }
+    ensures value { HasEffect program.now machine.old machine.new (λ w. fired_as program.now w i x (Kind.Leave place a)) result }
     ensures sizes { sizes_of machine.new ≡ sizes_of machine.old }
 {
     let code = code_at(&machine.activations, i);
@@ -297,7 +297,7 @@ pub(crate) fn fire(
     i: u32,
     x: u32,
 ) -> Result<(), NoMemory>
-    ensures value { OnOk result (state_of machine.new ≡ effected program.now (state_of machine.old) (fired program.now (state_of machine.old).world i x)) }
+    ensures value { HasEffect program.now machine.old machine.new (λ w. fired program.now w i x) result }
     ensures sizes { sizes_of machine.new ≡ sizes_of machine.old }
 {
     let code = code_at(&machine.activations, i);
@@ -319,7 +319,7 @@ fn fire_kind(
     requires code { code ≡ (activation_at (state_of machine.old).world i).code }
     requires small { code < 256 }
     requires node { x < 1024 }
-    ensures value { OnOk result (state_of machine.new ≡ effected program.now (state_of machine.old) (fired_as program.now (state_of machine.old).world i x kind)) }
+    ensures value { HasEffect program.now machine.old machine.new (λ w. fired_as program.now w i x kind) result }
     ensures sizes { sizes_of machine.new ≡ sizes_of machine.old }
 {
     match kind {

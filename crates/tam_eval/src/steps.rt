@@ -4,7 +4,7 @@ ghost use Rattle.tam_word.specs.Lists.{changed_at};
 ghost use Rattle.tam_graph.specs.Graphs.{Graph};
 ghost use Rattle.tam_flow.specs.Worlds.{with_word, with_block, got, all_got, entered, changes, sends_only};
 ghost use Rattle.tam_eval.specs.Machines.{activations_of, state_of, sizes_of};
-ghost use Rattle.tam_eval.specs.Effects.{effected};
+ghost use Rattle.tam_eval.specs.Effects.{effected, HasEffect};
 
 use crate::activation::Activation;
 use crate::machine::{Machine, code_at, has_entered, has_word, ready_among};
@@ -44,7 +44,7 @@ pub(crate) fn give_word(
     node: u32,
     word: u32,
 ) -> Result<(), NoMemory>
-    ensures value { OnOk result (state_of machine.new ≡ effected program.now (state_of machine.old) (changes (got (state_of machine.old).world i node word))) }
+    ensures value { HasEffect program.now machine.old machine.new (λ w. changes (got w i node word)) result }
     ensures sizes { sizes_of machine.new ≡ sizes_of machine.old }
 {
     let had = has_word(&machine.activations, i, node);
@@ -70,7 +70,7 @@ pub(crate) fn enter_block(
     i: u32,
     block: u32,
 ) -> Result<(), NoMemory>
-    ensures value { OnOk result (state_of machine.new ≡ effected program.now (state_of machine.old) (changes (entered (state_of machine.old).world i block))) }
+    ensures value { HasEffect program.now machine.old machine.new (λ w. changes (entered w i block)) result }
     ensures sizes { sizes_of machine.new ≡ sizes_of machine.old }
 {
     let had = has_entered(&machine.activations, i, block);
@@ -97,7 +97,7 @@ pub(crate) fn give_found(
     found: Option<u32>,
     word: u32,
 ) -> Result<(), NoMemory>
-    ensures value { OnOk result (state_of machine.new ≡ effected program.now (state_of machine.old) (changes (all_got (state_of machine.old).world i (option_to_list found) word))) }
+    ensures value { HasEffect program.now machine.old machine.new (λ w. changes (all_got w i (option_to_list found) word)) result }
     ensures sizes { sizes_of machine.new ≡ sizes_of machine.old }
 {
     match found {

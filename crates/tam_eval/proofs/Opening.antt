@@ -42,5 +42,11 @@ arguments-next g args k inside =
 pub opening-is : (g : Graph) (args : List ℕ) (activations : List ActivationState) (arrays : Arrays) (makers ready : List (ℕ × ℕ)) (pending : List Message)
     → activations ≡ begun g.main outside 0 ∷ [] → arrays ≡ [] → makers ≡ [] → ready ≡ map (λ z. (0, z)) (starters_of (code_of g g.main))
     → pending ≡ flat_map (argument_message g) (zip (below (length args)) args)
-    → record { world = record { activations = activations; arrays = arrays; makers = makers }; ready = ready; pending = pending; events = 0 } ≡ opening_state g args
+    → record {
+      world = record { activations = activations; arrays = arrays; makers = makers };
+      ready = ready;
+      pending = pending;
+      events =
+          0;
+    } ≡ opening_state g args
 opening-is g args activations arrays makers ready pending a b c d e = rw (a, b, c, d, e, joins-opening_starters g) refl

@@ -1,5 +1,6 @@
 -- The lists of a code's table, node by node.
-use Rattle.std.proofs.Common.{◌≡◌, ◌∙◌, ℕ, suc, ◌<◌, ◌≤◌, ◌==◌, ◌&&◌, Bool, true, false, List, ◌∷◌, [], ◌++◌, Option, Some, None, length, filter, nat_lt, refl, sym, ap, subst, arith, tests, ⊎_elim, length-append}
+use Rattle.std.proofs.Common.{◌≡◌, ◌∙◌, ℕ, suc, ◌<◌, ◌≤◌, ◌==◌, ◌&&◌, Bool, true, false, List, ◌∷◌, [], ◌++◌}
+use Rattle.std.proofs.Common.{Option, Some, None, length, filter, nat_lt, refl, sym, ap, subst, arith, tests, ⊎_elim, length-append}
 use Rattle.std.specs.Prelude.{slice_get}
 use Rattle.tam_word.specs.Lists.{below, has, where_so}
 use Rattle.tam_word.proofs.Sifted.{filter-twice}
@@ -63,13 +64,15 @@ pub tables-next : (g : Graph) (tables : List Table) (k : ℕ) (t : Table) → Ar
     → AreTablesBelow g (tables ++ t ∷ []) (suc k)
 tables-next g tables k t below_k is = record {
   count = omega (arith, length-append tables (t ∷ []), below_k.count);
-  each = λ j h. ⊎_elim (λ before. subst (IsTableOf (code_of g j)) (sym (get-left tables (t ∷ []) j (omega (arith, below_k.count, before)))) (below_k.each j before)) (last j) (last-or_before j k h);
+  each = λ j h. ⊎_elim (λ before. subst (IsTableOf (code_of g j)) (sym (get-left tables (t ∷ []) j (omega (arith, below_k.count, before))))
+      (below_k.each j before)) (last j) (last-or_before j k h);
 }
   where
     last : (j : ℕ) → j ≡ k → IsTableOf (code_of g j) (slice_get (tables ++ t ∷ []) j)
     last j e =
         let P : ℕ → Type 0 = λ n. IsTableOf (code_of g n) (slice_get (tables ++ t ∷ []) n) in
-        subst P (below_k.count ∙ sym e) (subst (IsTableOf (code_of g (length tables))) (sym (get-last tables t)) (subst (λ n. IsTableOf (code_of g n) (Some t)) (sym below_k.count) is))
+        subst P (below_k.count ∙ sym e) (subst (IsTableOf (code_of g (length tables))) (sym (get-last tables t)) (subst (λ n. IsTableOf (code_of g n)
+        (Some t)) (sym below_k.count) is))
 
 -- all codes
 pub tables-all : (g : Graph) (tables : List Table) → AreTablesBelow g tables (length g.codes) → AreTables g tables

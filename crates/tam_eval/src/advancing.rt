@@ -4,7 +4,8 @@ ghost use Rattle.tam_msgs.specs.Messages.{AreLimits};
 ghost use Rattle.tam_msgs.specs.declared.item.Item.{Item};
 ghost use Rattle.tam_eval.specs.GraphRuns.{fired_first, delivered_at, counted, graph_step};
 ghost use Rattle.tam_eval.specs.Machines.{state_of, CountsEvent, IsWithinLimits};
-ghost use Rattle.tam_eval.specs.Events.{state_with, IsOutcome, IsRun, IsDelivery, IsAnswerOf, next_choice, LeavesAtQuiet, Delivers, FiresFirst, DeliversAt, Advances};
+ghost use Rattle.tam_eval.specs.Events.{state_with, IsOutcome, IsRun, IsDelivery, IsAnswerOf, next_choice};
+ghost use Rattle.tam_eval.specs.Events.{LeavesAtQuiet, Delivers, FiresFirst, DeliversAt, Advances};
 
 use crate::delivering::deliver;
 use crate::firing::fire;

@@ -45,7 +45,8 @@ fn begin(
     call: u32,
 ) -> Result<(), NoMemory>
     requires { length machine.old.activations.items < 2 ^ 32 }
-    ensures value { HasEffect program.now machine.old machine.new (λ w. sends_only (with_begun w code caller call) (Message.Word caller call (length w.activations) ∷ [])) result }
+    ensures value { HasEffect program.now machine.old machine.new (λ w. sends_only (with_begun w code caller call) (Message.Word caller call
+        (length w.activations) ∷ [])) result }
     ensures grows { Grows machine.old machine.new 1 0 }
 {
     let number = machine.activations.len() as u32;

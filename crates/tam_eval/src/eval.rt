@@ -91,7 +91,12 @@ impl<'g> Eval<'g> {
 
     /// What the run has counted. Takes no memory.
     pub fn counts(&self) -> Counts
-        ensures value { result ≡ record { events = self.now.state.events; activations = length self.now.state.world.activations; cells = cells_used self.now.state.world.arrays } }
+        ensures value { result ≡ record {
+          events = self.now.state.events;
+          activations = length self.now.state.world.activations;
+          cells =
+              cells_used self.now.state.world.arrays;
+        } }
     {
         Counts {
             events: self.machine.events,

@@ -101,7 +101,8 @@ pub(crate) fn argument_message(
     frame: u32,
     word: u32,
 ) -> Option<Message>
-    ensures { option_to_list result ≡ map (λ y. Message.Word frame y word) (node_where (code_of program.now (callee_of (code_of program.now code) call)) (is_param place)) }
+    ensures { option_to_list result ≡ map (λ y. Message.Word frame y word) (node_where (code_of program.now (callee_of (code_of program.now code) call))
+        (is_param place)) }
 {
     match find_node(
         program,

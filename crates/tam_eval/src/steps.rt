@@ -108,7 +108,8 @@ pub(crate) fn give_found(
 
 // A message is sent.
 pub(crate) fn send(machine: &mut Machine, message: Message) -> Result<(), NoMemory>
-    ensures value { OnOk result ((g : Graph) → state_of machine.new ≡ effected g (state_of machine.old) (sends_only (state_of machine.old).world (message ∷ []))) }
+    ensures value { OnOk result ((g : Graph) → state_of machine.new ≡ effected g (state_of machine.old) (sends_only (state_of machine.old).world
+        (message ∷ []))) }
     ensures sizes { sizes_of machine.new ≡ sizes_of machine.old }
 {
     if machine.pending.send(message).is_err() {
@@ -119,7 +120,8 @@ pub(crate) fn send(machine: &mut Machine, message: Message) -> Result<(), NoMemo
 
 // The message, if there is one, is sent.
 pub(crate) fn send_found(machine: &mut Machine, message: Option<Message>) -> Result<(), NoMemory>
-    ensures value { OnOk result ((g : Graph) → state_of machine.new ≡ effected g (state_of machine.old) (sends_only (state_of machine.old).world (option_to_list message))) }
+    ensures value { OnOk result ((g : Graph) → state_of machine.new ≡ effected g (state_of machine.old) (sends_only (state_of machine.old).world
+        (option_to_list message))) }
     ensures sizes { sizes_of machine.new ≡ sizes_of machine.old }
 {
     match message {

@@ -154,7 +154,8 @@ fn add_node(
     node: Node,
     x: u32,
 ) -> Result<(), NoMemory>
-    ensures takers { OnOk result ((z : ℕ) → listed takers.new.items z ≡ listed takers.old.items z ++ where_so (fires node.kind && has (operands_of (code_of graph.now code) node.kind) z) x) }
+    ensures takers { OnOk result ((z : ℕ) → listed takers.new.items z ≡ listed takers.old.items z ++ where_so (fires node.kind && has (operands_of
+        (code_of graph.now code) node.kind) z) x) }
     ensures firers { OnOk result ((z : ℕ) → listed firers.new.items z ≡ listed firers.old.items z ++ where_so ((node.block == z) && fires node.kind) x) }
 {
     if !fires(node.kind) {
@@ -201,7 +202,8 @@ fn starters_among(
     code: u32,
     nodes: &[u32],
 ) -> Result<Vec<u32>, NoMemory>
-    ensures { IfOk result (λ starters. starters.items ≡ filter (λ x. is_none (operands_of (code_of graph.now code) (kind_at (code_of graph.now code) x))) nodes.now) }
+    ensures { IfOk result (λ starters. starters.items ≡ filter (λ x. is_none (operands_of (code_of graph.now code) (kind_at
+        (code_of graph.now code) x))) nodes.now) }
 {
     let mut starters = Vec::new(alloc);
     for node in nodes {

@@ -6,4 +6,11 @@ use Rattle.tam_eval.proofs.eval.send_arguments.Goals as goal
 pub loop-place-preserved : goal.loop-place-preserved
 loop-place-preserved c =
     let sent = c.in_ok-send_some.ensures in
-    rw (add-one, arguments-next c.args.program.now c.args.args.now c.loop-place.place c.loop-place-test.true, ← c.argument_message.ensures, ← append_assoc, ← c.loop-place.invariant) sent
+    rw (
+      add-one,
+      arguments-next c.args.program.now c.args.args.now c.loop-place.place c.loop-place-test.true,
+      ← c.argument_message.ensures,
+      ←
+          append_assoc,
+      ← c.loop-place.invariant,
+    ) sent

@@ -17,7 +17,8 @@ returns-then-is_sought c =
     let passes : test x ≡ true = sym (rw (block_is, kind_is) at c.is_sought.ensures.value) ∙ c.if-is_sought.true in
     let all : inlets ≡ inlets_of code (key_of c.args.sought) = c.inlets-inlets.ensures ∙ ap (inlets_of code) c.key_of.ensures in
     record {
-      value = sym (first-here test inlets c.loop-x.x-index 0 c.loop-x-test.true passes) ∙ c.loop-x.invariant ∙ ap (first_of test) all ∙ first-keyed code c.args.sought;
+      value = sym (first-here test inlets c.loop-x.x-index 0 c.loop-x-test.true passes) ∙ c.loop-x.invariant ∙ ap (first_of test) all
+          ∙ first-keyed code c.args.sought;
     }
 
 pub returns : goal.returns

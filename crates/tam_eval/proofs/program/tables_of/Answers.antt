@@ -6,7 +6,8 @@ pub loop-code-preserved : goal.loop-code-preserved
 loop-code-preserved c =
     let went : is_ok c.push.result ≡ true = c.is_err.ensures.negation ∙ ap not c.if-is_err.false in
     let longer : c.push.new.self.items ≡ c.loop-code.tables.items ++ c.in_ok-table.table ∷ [] = rw went at c.push.ensures.items in
-    rw (add-one, longer) (tables-next c.args.graph.now c.loop-code.tables.items c.loop-code.code c.in_ok-table.table c.loop-code.invariant c.in_ok-table.ensures)
+    rw (add-one, longer)
+    (tables-next c.args.graph.now c.loop-code.tables.items c.loop-code.code c.in_ok-table.table c.loop-code.invariant c.in_ok-table.ensures)
 
 pub returns : goal.returns
 returns c =

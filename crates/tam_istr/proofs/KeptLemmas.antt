@@ -30,7 +30,7 @@ module _ (kept : List (Vec KeptCell Global)) (a i : ℕ) (array : Vec KeptCell G
       ap cells_used (map-set (λ (v : Vec KeptCell Global). cells_of v.items) kept a (with_item (get_or kept a array) i after))
       ∙ cells_used-set (arrays_of kept) a (cells_of (get_or kept a array).items) (cells_of (slice_set (get_or kept a array).items i after)) kept_array
       (length-map (slice_set (get_or kept a array).items i after) cell_of ∙ length-set (get_or kept a array).items i after
-          ∙ sym (length-map (get_or kept a array).items cell_of))
+      ∙ sym (length-map (get_or kept a array).items cell_of))
 
   module _ (cell : KeptCell) (index_inside : i < length (get_or kept a array).items) (cell_is : cell ≡ get_or (get_or kept a array).items i cell) where
     -- the cell as contracts see it

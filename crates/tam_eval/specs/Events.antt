@@ -21,7 +21,12 @@ use Rattle.tam_msgs.specs.declared.message.Message.{Message}
 abbrev pub state_with : EvalState → List Item → List (ℕ × ℕ) → GraphState
 state_with s order printed = record { world = s.world; ready = s.ready; pending = s.pending; order = order; printed = printed; events = s.events }
 
--- the answer is what comes of an event: the state behind it and what it printed, or how the run ended; a want of memory says nothing
+-- the run goes on
+abbrev pub GoesOn : Outcome GraphState → Type 0
+GoesOn (Next s) = Unit {0}
+GoesOn (Ended how s) = ⊥
+
+-- the answer is what comes of an event: the state and what was printed, or how the run ended; memory is wanted only where it would go on
 abbrev pub IsOutcome : Outcome GraphState → EvalState → List Item → List (ℕ × ℕ) → Result Step Stop → Type 0
 IsOutcome outcome s order printed (Ok Ran) = outcome ≡ Next (state_with s order printed)
 IsOutcome outcome s order printed (Ok Delivered) = outcome ≡ Next (state_with s order printed)
@@ -32,7 +37,7 @@ IsOutcome outcome s order printed (Err (OutOfRange a i n)) = outcome ≡ Ended (
 IsOutcome outcome s order printed (Err (FramesFull n)) = outcome ≡ Ended (Frames_full n) (state_with s order printed)
 IsOutcome outcome s order printed (Err (CellsFull used n)) = outcome ≡ Ended (Cells_full used n) (state_with s order printed)
 IsOutcome outcome s order printed (Err (BudgetSpent n)) = outcome ≡ Ended (Budget_spent n) (state_with s order printed)
-IsOutcome outcome s order printed (Err NoMemory) = Unit {0}
+IsOutcome outcome s order printed (Err NoMemory) = GoesOn outcome
 
 -- where the run is quiet, nothing changed
 abbrev pub LeavesAtQuiet : EvalState → EvalState → List Item → List Item → Result Step Stop → Type 0

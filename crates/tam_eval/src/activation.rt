@@ -7,6 +7,9 @@ ghost use Rattle.tam_eval.specs.Machines.{activation_of};
 use std::alloc::Global;
 use tam_edge::NoMemory;
 
+/// The number that names the outside.
+pub(crate) const OUTSIDE: u32 = u32::MAX;
+
 /// One activation of a code.
 #[derive(Drop)]
 pub(crate) struct Activation {

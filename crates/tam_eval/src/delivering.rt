@@ -9,7 +9,7 @@ ghost use Rattle.tam_eval.specs.Machines.{EvalState, state_of, Grows, Fits, IsWi
 ghost use Rattle.tam_eval.specs.Events.{state_with, IsOutcome, IsDelivery, Delivers, FiresFirst, DeliversAt, Advances};
 ghost use Rattle.tam_eval.specs.Effects.{effected, with_begun, HasEffect};
 
-use crate::activation::Activation;
+use crate::activation::{Activation, OUTSIDE};
 use crate::machine::Machine;
 use crate::program::Program;
 use crate::steps::give_word;
@@ -17,8 +17,6 @@ use std::collections::VecDeque;
 use tam_edge::NoMemory;
 use tam_istr::{AllocError, FetchError, Fetched, Reader, StoreError};
 use tam_msgs::{Limits, Message, Pending, Step, Stop};
-
-const OUTSIDE: u32 = u32::MAX;
 
 // All the nodes become ready.
 pub(crate) fn ready_all(

@@ -8,7 +8,7 @@ ghost use Rattle.tam_flow.specs.Worlds.{argument_message};
 ghost use Rattle.tam_eval.specs.Machines.{state_of, IsWithinLimits};
 ghost use Rattle.tam_eval.specs.Events.{opening_state, IsEvent};
 
-use crate::activation::Activation;
+use crate::activation::{Activation, OUTSIDE};
 use crate::advancing::advance;
 use crate::delivering::ready_all;
 use crate::finding::{Sought, find_node};
@@ -21,8 +21,6 @@ use tam_edge::NoMemory;
 use tam_graph::Accepted;
 use tam_istr::Cells;
 use tam_msgs::{Counts, Limits, Message, Order, Pending, Step, Stop};
-
-const OUTSIDE: u32 = u32::MAX;
 
 /// A run of an accepted graph. The caller keeps the order list and the results printed.
 #[derive(Drop)]

@@ -6,14 +6,12 @@ ghost use Rattle.tam_flow.specs.Worlds.{words_of, result_message};
 ghost use Rattle.tam_eval.specs.Machines.{world_with};
 ghost use Rattle.tam_eval.specs.Effects.{one_listed, two_listed, three_listed};
 
-use crate::activation::Activation;
+use crate::activation::{Activation, OUTSIDE};
 use crate::finding::{Sought, find_node};
 use crate::machine::{call_at, caller_at, code_at, word_at};
 use crate::nodes::callee_of;
 use crate::program::Program;
 use tam_msgs::Message;
-
-const OUTSIDE: u32 = u32::MAX;
 
 // The word of one operand.
 pub(crate) fn one_word(activations: &[Activation], i: u32, a: u32) -> Option<u32>

@@ -1,5 +1,5 @@
 -- The state before the first event.
-use Rattle.std.proofs.Common.{◌≡◌, ◌∙◌, ℕ, zero, suc, ◌<◌, List, [], ◌∷◌, ◌++◌, length, map, take, get_or, refl, ap, sym, arith, length-append}
+use Rattle.std.proofs.Common.{◌≡◌, ◌∙◌, ℕ, zero, suc, ◌<◌, List, [], ◌∷◌, ◌++◌, length, map, take, get_or, refl, ap, arith, length-append}
 use Rattle.std.specs.Prelude.{zip, flat_map}
 use Rattle.std.proofs.Math.Seq.{take-suc}
 use Rattle.std.proofs.lemmas.Grind.{flat_map-append}
@@ -11,7 +11,7 @@ use Rattle.tam_msgs.specs.Messages.{outside}
 use Rattle.tam_graph.specs.Graphs.{Graph, code_of}
 use Rattle.tam_flow.specs.Worlds.{ActivationState, begun, argument_message}
 use Rattle.tam_eval.specs.Takers.{starters_of}
-use Rattle.tam_eval.specs.Eval.{EvalState, opening_state}
+use Rattle.tam_eval.specs.Events.{opening_state}
 use Rattle.tam_eval.proofs.Joins.{joins-opening_starters}
 
 -- a pair more behind two lists that are equally long
@@ -42,5 +42,11 @@ arguments-next g args k inside =
 pub opening-is : (g : Graph) (args : List ℕ) (activations : List ActivationState) (arrays : Arrays) (makers ready : List (ℕ × ℕ)) (pending : List Message)
     → activations ≡ begun g.main outside 0 ∷ [] → arrays ≡ [] → makers ≡ [] → ready ≡ map (λ z. (0, z)) (starters_of (code_of g g.main))
     → pending ≡ flat_map (argument_message g) (zip (below (length args)) args)
-    → record { world = record { activations = activations; arrays = arrays; makers = makers }; ready = ready; pending = pending; events = 0 } ≡ opening_state g args
+    → record {
+      world = record { activations = activations; arrays = arrays; makers = makers };
+      ready = ready;
+      pending = pending;
+      events =
+          0;
+    } ≡ opening_state g args
 opening-is g args activations arrays makers ready pending a b c d e = rw (a, b, c, d, e, joins-opening_starters g) refl

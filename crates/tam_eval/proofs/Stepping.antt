@@ -1,5 +1,6 @@
 -- The state after a node got a word, a block was entered, or a message was sent, as the evaluator makes it.
-use Rattle.std.proofs.Common.{◌≡◌, ◌∙◌, ℕ, zero, suc, ◌+◌, ◌<◌, ◌≤◌, nat_lt, Bool, true, false, List, [], ◌∷◌, ◌++◌, length, map, filter, get_or, slice_set, refl, sym, ap, arith, Ok, Err, Result, OnOk, is_ok, true≢false}
+use Rattle.std.proofs.Common.{◌≡◌, ◌∙◌, ℕ, zero, suc, ◌+◌, ◌<◌, ◌≤◌, nat_lt, Bool, true, false, List, [], ◌∷◌, ◌++◌}
+use Rattle.std.proofs.Common.{length, map, filter, get_or, slice_set, refl, sym, ap, arith, Ok, Err, Result, OnOk, is_ok, true≢false}
 use Rattle.std.proofs.lemmas.List.{append-nil}
 use Rattle.tam_word.specs.Lists.{changed_at}
 use Rattle.tam_istr.specs.Cells.{Arrays, cells_used, with_array}
@@ -10,11 +11,14 @@ use Rattle.tam_msgs.specs.declared.message.Message.TheVariants.{Word as Carry, C
 use Rattle.tam_msgs.specs.Runs.{End, Next, Ended}
 use Rattle.tam_msgs.specs.declared.message.Message.{Message}
 use Rattle.tam_graph.specs.Graphs.{Graph, code_of}
-use Rattle.tam_flow.specs.Worlds.{World, ActivationState, activation_at, its_code, has_word, has_entered, with_word, with_block, got, entered, changes, sends_only, begun, Effect, Fault, Went, Faulted, delivered}
+use Rattle.tam_flow.specs.Worlds.{World, ActivationState, its_code, has_word, has_entered, with_word, with_block, got, entered}
+use Rattle.tam_flow.specs.Worlds.{changes, sends_only, begun, Effect, Fault, Went, Faulted, delivered}
 use Rattle.tam_eval.proofs.Accessors.{with_begun}
-use Rattle.tam_eval.specs.GraphRuns.{is_enabled, joins, refusal, delivered_unless, end_of}
+use Rattle.tam_eval.specs.GraphRuns.{is_enabled, refusal, delivered_unless, end_of}
 use Rattle.tam_eval.specs.Takers.{takers_of, firers_in, takers_now, firers_now, starters_of}
-use Rattle.tam_eval.specs.Eval.{EvalState, activation_of, activations_of, effected, state_with}
+use Rattle.tam_eval.specs.Machines.{EvalState, activation_of, activations_of}
+use Rattle.tam_eval.specs.Effects.{effected}
+use Rattle.tam_eval.specs.Events.{state_with}
 use Rattle.tam_eval.specs.declared.activation.Activation.{Activation}
 use Rattle.tam_eval.proofs.Joins.{joins-got_any, joins-entered_any, joins-unchanged, joins-begun_starters, joins-arrays, joins-arrays_alone}
 
@@ -107,7 +111,11 @@ module _ (g : Graph) (s : EvalState) where
       → arrays ≡ with_array s.world.arrays n → makers ≡ s.world.makers ++ (f, x) ∷ [] → number ≡ length s.world.arrays
       → pending ≡ s.pending ++ Carry f x number ∷ []
       → record s { world = record s.world { arrays = arrays; makers = makers }; pending = pending }
-      ≡ effected g s (sends_only (record s.world { arrays = with_array s.world.arrays n; makers = s.world.makers ++ (f, x) ∷ [] }) (Carry f x (length s.world.arrays) ∷ []))
+      ≡ effected g s (sends_only (record s.world {
+        arrays = with_array s.world.arrays n;
+        makers =
+            s.world.makers ++ (f, x) ∷ [];
+      }) (Carry f x (length s.world.arrays) ∷ []))
   state-made n f x number arrays makers pending made noted count sent =
       rw (made, noted, sent, count, joins-arrays g s.world (with_array s.world.arrays n) (s.world.makers ++ (f, x) ∷ []), append-nil s.ready) refl
 
@@ -117,7 +125,10 @@ module _ (g : Graph) (s : EvalState) where
 
   -- cells changed, and messages were sent
   pub state-cells : (arrays : Arrays) (messages : List Message)
-      → record s { world = record s.world { arrays = arrays }; pending = s.pending ++ messages } ≡ effected g s (sends_only (record s.world { arrays = arrays }) messages)
+      → record s { world = record s.world { arrays = arrays }; pending = s.pending ++ messages } ≡ effected g s (sends_only (record s.world {
+        arrays =
+            arrays;
+      }) messages)
   state-cells arrays messages = rw (joins-arrays_alone g s.world arrays, append-nil s.ready) refl
 
   module _ (limits : Limits) (m : Message) (order : List Item) (printed : List (ℕ × ℕ)) where

@@ -2,9 +2,9 @@
 use Rattle.std.proofs.Common.{◌≡◌, ◌≢◌, ◌∙◌, ℕ, zero, suc, ◌<◌, ◌==◌, Bool, true, false, List, [], ◌∷◌, ◌++◌, length, filter, slice_set, refl, sym, ap, arith}
 use Rattle.std.specs.declared.vec.Vec.{Vec}
 use Rattle.std.specs.declared.alloc.Global.{Global}
-use Rattle.std.proofs.lemmas.List.{append-nil, append_assoc}
+use Rattle.std.proofs.lemmas.List.{append-nil}
 use Rattle.tam_word.specs.Lists.{where_so}
-use Rattle.tam_word.proofs.Tests.{number-eq, number-differs, differs-number}
+use Rattle.tam_word.proofs.Tests.{number-eq, number-differs}
 use Rattle.tam_eval.specs.Tables.{listed}
 
 -- an empty list behind the others

@@ -2,13 +2,13 @@
 use Rattle.std.proofs.Common.{◌≡◌, ◌≢◌, ◌∙◌, ℕ, ◌==◌, false, List, [], ◌∷◌, map, sym, ap, subst, refl}
 use Rattle.tam_word.proofs.Tests.{differs-number}
 use Rattle.tam_msgs.specs.Messages.{outside}
-use Rattle.tam_msgs.specs.declared.message.Message.{Message}
 use Rattle.tam_msgs.specs.declared.message.Message.TheVariants.{Word as Carry}
 use Rattle.tam_graph.specs.declared.kind.Kind.{Kind}
 use Rattle.std.specs.Prelude.{None, slice_get}
 use Rattle.tam_graph.specs.Graphs.{Graph, or_kind, kind_at, operands_of, node_where, is_ret}
-use Rattle.tam_flow.specs.Worlds.{World, its_code, activation_at, words_of, fired, fired_with, changes, result_message}
-use Rattle.tam_eval.specs.Eval.{EvalState, effected, effect_with, fired_as}
+use Rattle.tam_flow.specs.Worlds.{World, its_code, activation_at, words_of, fired, fired_with, result_message}
+use Rattle.tam_eval.specs.Machines.{EvalState}
+use Rattle.tam_eval.specs.Effects.{effected, effect_with, fired_as}
 use Rattle.tam_eval.proofs.Stepping.{state-same}
 
 -- where an operand has no word, nothing is done

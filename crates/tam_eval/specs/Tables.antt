@@ -4,6 +4,7 @@ use Rattle.std.specs.declared.vec.Vec.{Vec}
 use Rattle.std.specs.declared.alloc.Global.{Global}
 use Rattle.tam_graph.specs.Graphs.{Graph, Code, code_of}
 use Rattle.tam_eval.specs.Takers.{takers_of, firers_in, starters_of}
+use Rattle.tam_eval.specs.Sought.{inlets_of}
 use Rattle.tam_eval.specs.declared.table.Table.{Table}
 
 -- the items of a vector, or none
@@ -25,6 +26,11 @@ abbrev pub firers_kept : Option Table → ℕ → List ℕ
 firers_kept None b = []
 firers_kept (Some t) b = listed t.firers.items b
 
+-- the nodes under a number, of those that are looked for
+abbrev pub inlets_kept : Option Table → ℕ → List ℕ
+inlets_kept None y = []
+inlets_kept (Some t) y = listed t.inlets.items y
+
 -- the nodes that may fire as soon as an activation begins
 abbrev pub starters_kept : Option Table → List ℕ
 starters_kept None = []
@@ -34,6 +40,7 @@ starters_kept (Some t) = t.starters.items
 pub record IsTableOf (c : Code) (t : Option Table) : Type 0 where
   pub takers : (y : ℕ) → takers_kept t y ≡ takers_of c y
   pub firers : (b : ℕ) → firers_kept t b ≡ firers_in c b
+  pub inlets : (y : ℕ) → inlets_kept t y ≡ inlets_of c y
   pub starters : starters_kept t ≡ starters_of c
 
 -- each code of the graph has its table

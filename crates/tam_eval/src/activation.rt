@@ -2,10 +2,13 @@
 ghost use Rattle.std.specs.Prelude.{◌≡◌, None, Some, true, false, slice_index_or, OnOk, IfOk};
 ghost use Rattle.tam_word.specs.Lists.{put_at};
 ghost use Rattle.tam_flow.specs.Worlds.{begun, with_word, with_block};
-ghost use Rattle.tam_eval.specs.Eval.{activation_of};
+ghost use Rattle.tam_eval.specs.Machines.{activation_of};
 
 use std::alloc::Global;
 use tam_edge::NoMemory;
+
+/// The number that names the outside.
+pub(crate) const OUTSIDE: u32 = u32::MAX;
 
 /// One activation of a code.
 #[derive(Drop)]

@@ -3,7 +3,9 @@ ghost use Rattle.std.specs.Prelude.{ℕ, List, ◌≡◌, ◌+◌, ◌-◌, ◌<
 ghost use Rattle.tam_msgs.specs.Messages.{AreLimits};
 ghost use Rattle.tam_msgs.specs.declared.item.Item.{Item};
 ghost use Rattle.tam_eval.specs.GraphRuns.{fired_first, delivered_at, counted, graph_step};
-ghost use Rattle.tam_eval.specs.Eval.{state_of, state_with, CountsEvent, IsOutcome, IsNotQuiet, IsWithinLimits, LeavesAtQuiet};
+ghost use Rattle.tam_eval.specs.Machines.{state_of, CountsEvent, IsWithinLimits};
+ghost use Rattle.tam_eval.specs.Events.{state_with, IsOutcome, IsRun, IsDelivery, IsAnswerOf, next_choice};
+ghost use Rattle.tam_eval.specs.Events.{LeavesAtQuiet, Delivers, FiresFirst, DeliversAt, Advances};
 
 use crate::delivering::deliver;
 use crate::firing::fire;
@@ -16,9 +18,9 @@ use tam_msgs::{Choice, Limits, Order, Step, Stop};
 fn run_first(program: &Program<'_>, machine: &mut Machine) -> Result<Step, Stop>
     requires ready { 0 < length machine.old.ready.items }
     requires events { machine.old.events < 2 ^ 32 - 1 }
-    ensures outcome { (order before : List Item) (printed : List (ℕ × ℕ)) → IsOutcome (fired_first program.now (counted (state_with (state_of machine.old) before printed) order) (state_of machine.old).ready) (state_of machine.new) order printed result }
+    ensures outcome { FiresFirst program.now machine.old machine.new result }
     ensures sizes { CountsEvent machine.old machine.new }
-    ensures goes { IsNotQuiet result }
+    ensures goes { IsRun result }
 {
     let Some((i, x)) = machine.ready.pop_front() else {
         unreachable!();
@@ -41,9 +43,9 @@ fn deliver_at(
     requires within { IsWithinLimits machine.old limits.now }
     requires place { place < length machine.old.pending.messages }
     requires events { machine.old.events < limits.now.budget }
-    ensures outcome { (order before : List Item) (printed : List (ℕ × ℕ)) → IsOutcome (delivered_at program.now limits.now (counted (state_with (state_of machine.old) before printed) order) place (slice_get (state_of machine.old).pending place)) (state_of machine.new) order printed result }
+    ensures outcome { DeliversAt program.now limits.now machine.old machine.new place result }
     ensures within { IsWithinLimits machine.new limits.now }
-    ensures goes { IsNotQuiet result }
+    ensures goes { IsDelivery result }
 {
     let message = machine.pending.take(place);
     machine.events += 1;
@@ -59,7 +61,8 @@ pub(crate) fn advance(
 ) -> Result<Step, Stop>
     requires limits { AreLimits limits.now }
     requires within { IsWithinLimits machine.old limits.now }
-    ensures outcome { (printed : List (ℕ × ℕ)) → IsOutcome (graph_step program.now limits.now (state_with (state_of machine.old) order.old printed)) (state_of machine.new) order.new printed result }
+    ensures outcome { Advances program.now limits.now machine.old machine.new order.old order.new result }
+    ensures chosen { IsAnswerOf (next_choice (state_of machine.old) order.old) result }
     ensures quiet { LeavesAtQuiet (state_of machine.old) (state_of machine.new) order.old order.new result }
     ensures within { IsWithinLimits machine.new limits.now }
 {
@@ -68,7 +71,8 @@ pub(crate) fn advance(
     if !ready && pending == 0 {
         return Ok(Step::Quiet);
     }
-    if machine.events == limits.budget {
+    let budget = limits.budget;
+    if machine.events == budget {
         return Err(Stop::BudgetSpent {
             events: machine.events,
         });

@@ -5,9 +5,11 @@ ghost use Rattle.tam_msgs.specs.Messages.{answers, AreLimits};
 ghost use Rattle.tam_msgs.specs.declared.item.Item.{Item};
 ghost use Rattle.tam_flow.specs.Worlds.{sends_only};
 ghost use Rattle.tam_eval.specs.GraphRuns.{refusal, delivered_unless};
-ghost use Rattle.tam_eval.specs.Eval.{EvalState, state_of, state_with, effected, IsOutcome, Grows, Fits, IsNotQuiet, IsWithinLimits, with_begun};
+ghost use Rattle.tam_eval.specs.Machines.{EvalState, state_of, Grows, Fits, IsWithinLimits};
+ghost use Rattle.tam_eval.specs.Events.{state_with, IsOutcome, IsDelivery, Delivers, FiresFirst, DeliversAt, Advances};
+ghost use Rattle.tam_eval.specs.Effects.{effected, with_begun, HasEffect};
 
-use crate::activation::Activation;
+use crate::activation::{Activation, OUTSIDE};
 use crate::machine::Machine;
 use crate::program::Program;
 use crate::steps::give_word;
@@ -15,8 +17,6 @@ use std::collections::VecDeque;
 use tam_edge::NoMemory;
 use tam_istr::{AllocError, FetchError, Fetched, Reader, StoreError};
 use tam_msgs::{Limits, Message, Pending, Step, Stop};
-
-const OUTSIDE: u32 = u32::MAX;
 
 // All the nodes become ready.
 pub(crate) fn ready_all(
@@ -43,7 +43,8 @@ fn begin(
     call: u32,
 ) -> Result<(), NoMemory>
     requires { length machine.old.activations.items < 2 ^ 32 }
-    ensures value { OnOk result (state_of machine.new ≡ effected program.now (state_of machine.old) (sends_only (with_begun (state_of machine.old).world code caller call) (Message.Word caller call (length (state_of machine.old).world.activations) ∷ []))) }
+    ensures value { HasEffect program.now machine.old machine.new (λ w. sends_only (with_begun w code caller call) (Message.Word caller call
+        (length w.activations) ∷ [])) result }
     ensures grows { Grows machine.old machine.new 1 0 }
 {
     let number = machine.activations.len() as u32;
@@ -91,9 +92,9 @@ fn deliver_word(
 ) -> Result<Step, Stop>
     requires limits { AreLimits limits.now }
     requires within { IsWithinLimits machine.old limits.now }
-    ensures outcome { (order : List Item) (printed : List (ℕ × ℕ)) → IsOutcome (delivered_unless program.now (state_with (state_of machine.old) order printed) (Message.Word frame inlet word) (refusal limits.now (state_of machine.old).world (Message.Word frame inlet word))) (state_of machine.new) order printed result }
+    ensures outcome { Delivers program.now limits.now machine.old machine.new (Message.Word frame inlet word) result }
     ensures within { Fits machine.old machine.new limits.now }
-    ensures goes { IsNotQuiet result }
+    ensures goes { IsDelivery result }
 {
     if frame == OUTSIDE {
         return Ok(Step::Printed { place: inlet, word });
@@ -115,9 +116,9 @@ fn deliver_frame(
 ) -> Result<Step, Stop>
     requires limits { AreLimits limits.now }
     requires within { IsWithinLimits machine.old limits.now }
-    ensures outcome { (order : List Item) (printed : List (ℕ × ℕ)) → IsOutcome (delivered_unless program.now (state_with (state_of machine.old) order printed) (Message.Frame code frame inlet) (refusal limits.now (state_of machine.old).world (Message.Frame code frame inlet))) (state_of machine.new) order printed result }
+    ensures outcome { Delivers program.now limits.now machine.old machine.new (Message.Frame code frame inlet) result }
     ensures within { Fits machine.old machine.new limits.now }
-    ensures goes { IsNotQuiet result }
+    ensures goes { IsDelivery result }
 {
     if machine.activations.len() == limits.frames as usize {
         return Err(Stop::FramesFull {
@@ -142,9 +143,9 @@ fn deliver_cells(
     requires limits { AreLimits limits.now }
     requires within { IsWithinLimits machine.old limits.now }
     requires counted { length machine.old.cells.arrays < machine.old.events }
-    ensures outcome { (order : List Item) (printed : List (ℕ × ℕ)) → IsOutcome (delivered_unless program.now (state_with (state_of machine.old) order printed) (Message.Cells len frame inlet) (refusal limits.now (state_of machine.old).world (Message.Cells len frame inlet))) (state_of machine.new) order printed result }
+    ensures outcome { Delivers program.now limits.now machine.old machine.new (Message.Cells len frame inlet) result }
     ensures within { Fits machine.old machine.new limits.now }
-    ensures goes { IsNotQuiet result }
+    ensures goes { IsDelivery result }
 {
     match machine.cells.alloc_cells(len) {
         Ok(number) => {
@@ -178,9 +179,9 @@ fn deliver_fetch(
 ) -> Result<Step, Stop>
     requires limits { AreLimits limits.now }
     requires within { IsWithinLimits machine.old limits.now }
-    ensures outcome { (order : List Item) (printed : List (ℕ × ℕ)) → IsOutcome (delivered_unless program.now (state_with (state_of machine.old) order printed) (Message.Fetch array index frame inlet site) (refusal limits.now (state_of machine.old).world (Message.Fetch array index frame inlet site))) (state_of machine.new) order printed result }
+    ensures outcome { Delivers program.now limits.now machine.old machine.new (Message.Fetch array index frame inlet site) result }
     ensures within { Fits machine.old machine.new limits.now }
-    ensures goes { IsNotQuiet result }
+    ensures goes { IsDelivery result }
 {
     match machine.cells.fetch(array, index, Reader { frame, inlet }) {
         Ok(Fetched::Now(word)) => {
@@ -213,9 +214,9 @@ fn deliver_store(
 ) -> Result<Step, Stop>
     requires limits { AreLimits limits.now }
     requires within { IsWithinLimits machine.old limits.now }
-    ensures outcome { (order : List Item) (printed : List (ℕ × ℕ)) → IsOutcome (delivered_unless program.now (state_with (state_of machine.old) order printed) (Message.Store array index word site) (refusal limits.now (state_of machine.old).world (Message.Store array index word site))) (state_of machine.new) order printed result }
+    ensures outcome { Delivers program.now limits.now machine.old machine.new (Message.Store array index word site) result }
     ensures within { Fits machine.old machine.new limits.now }
-    ensures goes { IsNotQuiet result }
+    ensures goes { IsDelivery result }
 {
     match machine.cells.store(array, index, word, site) {
         Ok(readers) => {
@@ -247,9 +248,9 @@ pub(crate) fn deliver(
     requires limits { AreLimits limits.now }
     requires within { IsWithinLimits machine.old limits.now }
     requires counted { length machine.old.cells.arrays < machine.old.events }
-    ensures outcome { (order : List Item) (printed : List (ℕ × ℕ)) → IsOutcome (delivered_unless program.now (state_with (state_of machine.old) order printed) (message) (refusal limits.now (state_of machine.old).world (message))) (state_of machine.new) order printed result }
+    ensures outcome { Delivers program.now limits.now machine.old machine.new (message) result }
     ensures within { Fits machine.old machine.new limits.now }
-    ensures goes { IsNotQuiet result }
+    ensures goes { IsDelivery result }
 {
     match message {
         Message::Word { frame, inlet, word } => deliver_word(

@@ -5,23 +5,22 @@ ghost use Rattle.tam_istr.specs.Cells.{cells_used};
 ghost use Rattle.tam_msgs.specs.Messages.{AreLimits};
 ghost use Rattle.tam_graph.specs.Graphs.{AreArguments};
 ghost use Rattle.tam_flow.specs.Worlds.{argument_message};
-ghost use Rattle.tam_eval.specs.Eval.{state_of, opening_state, IsWithinLimits, IsEvent};
+ghost use Rattle.tam_eval.specs.Machines.{state_of, IsWithinLimits};
+ghost use Rattle.tam_eval.specs.Events.{opening_state, IsEvent};
 
-use crate::activation::Activation;
+use crate::activation::{Activation, OUTSIDE};
 use crate::advancing::advance;
 use crate::delivering::ready_all;
+use crate::finding::{Sought, find_node};
 use crate::machine::Machine;
-use crate::nodes::{Sought, find_node};
 use crate::program::Program;
 use std::alloc::Global;
 use std::collections::VecDeque;
 use std::marker::Model;
 use tam_edge::NoMemory;
-use tam_graph::{Accepted, Graph};
+use tam_graph::Accepted;
 use tam_istr::Cells;
 use tam_msgs::{Counts, Limits, Message, Order, Pending, Step, Stop};
-
-const OUTSIDE: u32 = u32::MAX;
 
 /// A run of an accepted graph. The caller keeps the order list and the results printed.
 #[derive(Drop)]
@@ -33,12 +32,13 @@ pub struct Eval<'g> {
 }
 
 impl<'g> Model for Eval<'g> {
-    ghost use Rattle.tam_eval.specs.Eval.{EvalRun, state_of};
+    ghost use Rattle.tam_eval.specs.Events.{EvalRun};
+    ghost use Rattle.tam_eval.specs.Machines.{state_of};
 
     ghost Value = { EvalRun };
 
     ghost use Rattle.tam_msgs.specs.Messages.{AreLimits};
-    ghost use Rattle.tam_eval.specs.Eval.{IsWithinLimits};
+    ghost use Rattle.tam_eval.specs.Machines.{IsWithinLimits};
 
     ghost view = { λ e. record { graph = e.program; limits = e.limits; state = state_of e.machine; stopped = e.stopped } };
 
@@ -89,7 +89,12 @@ impl<'g> Eval<'g> {
 
     /// What the run has counted. Takes no memory.
     pub fn counts(&self) -> Counts
-        ensures value { result ≡ record { events = self.now.state.events; activations = length self.now.state.world.activations; cells = cells_used self.now.state.world.arrays } }
+        ensures value { result ≡ record {
+          events = self.now.state.events;
+          activations = length self.now.state.world.activations;
+          cells =
+              cells_used self.now.state.world.arrays;
+        } }
     {
         Counts {
             events: self.machine.events,
@@ -121,7 +126,7 @@ fn opening(
     let mut ready = VecDeque::new(alloc);
     ready_all(&mut ready, 0, program.starters(main))?;
     let mut pending = Pending::new(alloc);
-    send_arguments(program.graph(), main, args, &mut pending)?;
+    send_arguments(program, main, args, &mut pending)?;
     Ok(Machine {
         alloc,
         activations,
@@ -134,11 +139,11 @@ fn opening(
 }
 
 // The message of an argument of the root.
-fn argument_message(graph: &Graph, main: u32, place: u32, word: u32) -> Option<Message>
-    requires main { main ≡ graph.now.main }
-    ensures { option_to_list result ≡ argument_message graph.now (place, word) }
+fn argument_message(program: &Program<'_>, main: u32, place: u32, word: u32) -> Option<Message>
+    requires main { main ≡ program.now.main }
+    ensures { option_to_list result ≡ argument_message program.now (place, word) }
 {
-    match find_node(graph, main, Sought::Param { place }) {
+    match find_node(program, main, Sought::Param { place }) {
         Some(inlet) => Some(Message::Word {
             frame: 0,
             inlet,
@@ -165,17 +170,20 @@ fn send_some(pending: &mut Pending, message: Option<Message>) -> Result<(), NoMe
 
 // One message per argument, in the order of places.
 fn send_arguments(
-    graph: &Graph,
+    program: &Program<'_>,
     main: u32,
     args: &[u32],
     pending: &mut Pending,
 ) -> Result<(), NoMemory>
-    requires main { main ≡ graph.now.main }
+    requires main { main ≡ program.now.main }
     requires args { length args.now ≤ 64 }
-    ensures { OnOk result (pending.new.messages ≡ pending.old.messages ++ flat_map (argument_message graph.now) (zip (below (length args.now)) args.now)) }
+    ensures { OnOk result (pending.new.messages ≡ pending.old.messages ++ flat_map (argument_message program.now) (zip (below (length args.now)) args.now)) }
 {
     for (place, word) in args.iter().enumerate() {
-        send_some(pending, argument_message(graph, main, place as u32, *word))?;
+        send_some(
+            pending,
+            argument_message(program, main, place as u32, *word),
+        )?;
     }
     Ok(())
 }

@@ -4,12 +4,14 @@ ghost use Rattle.tam_word.specs.Words.{meaning};
 ghost use Rattle.tam_msgs.specs.Messages.{site};
 ghost use Rattle.tam_graph.specs.Graphs.{code_of, callee_of, node_where, is_param};
 ghost use Rattle.tam_flow.specs.Worlds.{activation_at, words_of, fired, result_message};
-ghost use Rattle.tam_eval.specs.Eval.{world_with, one_listed, two_listed, three_listed, state_of, effected, fired_as, sizes_of};
+ghost use Rattle.tam_eval.specs.Machines.{world_with, state_of, sizes_of};
+ghost use Rattle.tam_eval.specs.Effects.{one_listed, two_listed, three_listed, effected, fired_as, HasEffect};
 
-use crate::activation::Activation;
-use crate::machine::{Machine, call_at, caller_at, code_at, word_at};
-use crate::nodes::{
-    Sought, block_at, callee_of, chosen_branch, find_enter, find_merge, find_node, node_at, test_of,
+use crate::finding::{find_enter, find_merge};
+use crate::machine::{Machine, code_at};
+use crate::nodes::{block_at, chosen_branch, node_at, test_of};
+use crate::operands::{
+    argument_message, one_word, result_message, site_of, three_words, two_words,
 };
 use crate::program::Program;
 use crate::steps::{enter_block, give_found, give_word, send, send_found};
@@ -17,85 +19,6 @@ use tam_edge::NoMemory;
 use tam_graph::Kind;
 use tam_msgs::Message;
 use tam_word::{Op, apply};
-
-const OUTSIDE: u32 = u32::MAX;
-
-// The word of one operand.
-fn one_word(activations: &[Activation], i: u32, a: u32) -> Option<u32>
-    ensures { one_listed result ≡ words_of (world_with activations.now) i (a ∷ []) }
-{
-    word_at(activations, i, a)
-}
-
-// The words of two operands, where both have one.
-fn two_words(activations: &[Activation], i: u32, a: u32, b: u32) -> Option<(u32, u32)>
-    ensures { two_listed result ≡ words_of (world_with activations.now) i (a ∷ b ∷ []) }
-{
-    let Some(u) = word_at(activations, i, a) else {
-        return None;
-    };
-    let Some(v) = word_at(activations, i, b) else {
-        return None;
-    };
-    Some((u, v))
-}
-
-// The words of three operands, where each has one.
-fn three_words(
-    activations: &[Activation],
-    i: u32,
-    a: u32,
-    b: u32,
-    c: u32,
-) -> Option<(u32, u32, u32)>
-    ensures { three_listed result ≡ words_of (world_with activations.now) i (a ∷ b ∷ c ∷ []) }
-{
-    let Some(t) = word_at(activations, i, a) else {
-        return None;
-    };
-    let Some((u, v)) = two_words(activations, i, b, c) else {
-        return None;
-    };
-    Some((t, u, v))
-}
-
-// The message of a result: to the call that began the activation, or outside.
-fn result_message(
-    program: &Program<'_>,
-    activations: &[Activation],
-    i: u32,
-    place: u32,
-    word: u32,
-) -> Option<Message>
-    ensures { option_to_list result ≡ result_message program.now (world_with activations.now) i place word }
-{
-    let frame = caller_at(activations, i);
-    if frame == OUTSIDE {
-        return Some(Message::Word {
-            frame,
-            inlet: place,
-            word,
-        });
-    }
-    let call = call_at(activations, i);
-    match find_node(
-        program.graph(),
-        code_at(activations, frame),
-        Sought::Ret { call, place },
-    ) {
-        Some(inlet) => Some(Message::Word { frame, inlet, word }),
-        None => None,
-    }
-}
-
-// The site of a node.
-fn site_of(code: u32, node: u32) -> u32
-    requires code { code < 256 }
-    requires node { node < 1024 }
-    ensures { result ≡ site code node }
-{
-    1024 * code + node
-}
 
 fn fire_op(
     program: &Program<'_>,
@@ -106,7 +29,7 @@ fn fire_op(
     a: u32,
     b: u32,
 ) -> Result<(), NoMemory>
-    ensures value { OnOk result (state_of machine.new ≡ effected program.now (state_of machine.old) (fired_as program.now (state_of machine.old).world i x (Kind.Op op a b))) }
+    ensures value { HasEffect program.now machine.old machine.new (λ w. fired_as program.now w i x (Kind.Op op a b)) result }
     ensures sizes { sizes_of machine.new ≡ sizes_of machine.old }
 {
     match two_words(&machine.activations, i, a, b) {
@@ -123,7 +46,7 @@ fn fire_seq(
     a: u32,
     b: u32,
 ) -> Result<(), NoMemory>
-    ensures value { OnOk result (state_of machine.new ≡ effected program.now (state_of machine.old) (fired_as program.now (state_of machine.old).world i x (Kind.Seq a b))) }
+    ensures value { HasEffect program.now machine.old machine.new (λ w. fired_as program.now w i x (Kind.Seq a b)) result }
     ensures sizes { sizes_of machine.new ≡ sizes_of machine.old }
 {
     match two_words(&machine.activations, i, a, b) {
@@ -139,7 +62,7 @@ fn fire_call(
     x: u32,
     callee: u32,
 ) -> Result<(), NoMemory>
-    ensures value { OnOk result (state_of machine.new ≡ effected program.now (state_of machine.old) (fired_as program.now (state_of machine.old).world i x (Kind.Call callee))) }
+    ensures value { HasEffect program.now machine.old machine.new (λ w. fired_as program.now w i x (Kind.Call callee)) result }
     ensures sizes { sizes_of machine.new ≡ sizes_of machine.old }
 {
     send(
@@ -152,27 +75,6 @@ fn fire_call(
     )
 }
 
-// The message that carries an argument to its param.
-fn argument_message(
-    program: &Program<'_>,
-    code: u32,
-    call: u32,
-    place: u32,
-    frame: u32,
-    word: u32,
-) -> Option<Message>
-    ensures { option_to_list result ≡ map (λ y. Message.Word frame y word) (node_where (code_of program.now (callee_of (code_of program.now code) call)) (is_param place)) }
-{
-    match find_node(
-        program.graph(),
-        callee_of(program.graph(), code, call),
-        Sought::Param { place },
-    ) {
-        Some(inlet) => Some(Message::Word { frame, inlet, word }),
-        None => None,
-    }
-}
-
 fn fire_arg(
     program: &Program<'_>,
     machine: &mut Machine,
@@ -182,7 +84,7 @@ fn fire_arg(
     place: u32,
     a: u32,
 ) -> Result<(), NoMemory>
-    ensures value { OnOk result (state_of machine.new ≡ effected program.now (state_of machine.old) (fired_as program.now (state_of machine.old).world i x (Kind.Arg call place a))) }
+    ensures value { HasEffect program.now machine.old machine.new (λ w. fired_as program.now w i x (Kind.Arg call place a)) result }
     ensures sizes { sizes_of machine.new ≡ sizes_of machine.old }
 {
     let code = code_at(&machine.activations, i);
@@ -203,7 +105,7 @@ fn fire_give(
     place: u32,
     a: u32,
 ) -> Result<(), NoMemory>
-    ensures value { OnOk result (state_of machine.new ≡ effected program.now (state_of machine.old) (fired_as program.now (state_of machine.old).world i x (Kind.Give place a))) }
+    ensures value { HasEffect program.now machine.old machine.new (λ w. fired_as program.now w i x (Kind.Give place a)) result }
     ensures sizes { sizes_of machine.new ≡ sizes_of machine.old }
 {
     match one_word(&machine.activations, i, a) {
@@ -222,7 +124,7 @@ fn fire_alloc(
     x: u32,
     len: u32,
 ) -> Result<(), NoMemory>
-    ensures value { OnOk result (state_of machine.new ≡ effected program.now (state_of machine.old) (fired_as program.now (state_of machine.old).world i x (Kind.Alloc len))) }
+    ensures value { HasEffect program.now machine.old machine.new (λ w. fired_as program.now w i x (Kind.Alloc len)) result }
     ensures sizes { sizes_of machine.new ≡ sizes_of machine.old }
 {
     match one_word(&machine.activations, i, len) {
@@ -250,7 +152,7 @@ fn fire_fetch(
     requires code { code ≡ (activation_at (state_of machine.old).world i).code }
     requires small { code < 256 }
     requires node { x < 1024 }
-    ensures value { OnOk result (state_of machine.new ≡ effected program.now (state_of machine.old) (fired_as program.now (state_of machine.old).world i x (Kind.Fetch array index))) }
+    ensures value { HasEffect program.now machine.old machine.new (λ w. fired_as program.now w i x (Kind.Fetch array index)) result }
     ensures sizes { sizes_of machine.new ≡ sizes_of machine.old }
 {
     match two_words(&machine.activations, i, array, index) {
@@ -284,7 +186,7 @@ fn fire_store(
     requires code { code ≡ (activation_at (state_of machine.old).world i).code }
     requires small { code < 256 }
     requires node { x < 1024 }
-    ensures value { OnOk result (state_of machine.new ≡ effected program.now (state_of machine.old) (fired_as program.now (state_of machine.old).world i x (Kind.Store array index a))) }
+    ensures value { HasEffect program.now machine.old machine.new (λ w. fired_as program.now w i x (Kind.Store array index a)) result }
     ensures sizes { sizes_of machine.new ≡ sizes_of machine.old }
 {
     match three_words(&machine.activations, i, array, index, a) {
@@ -313,7 +215,7 @@ fn fire_cond(
     yes: u32,
     no: u32,
 ) -> Result<(), NoMemory>
-    ensures value { OnOk result (state_of machine.new ≡ effected program.now (state_of machine.old) (fired_as program.now (state_of machine.old).world i x (Kind.Cond test yes no))) }
+    ensures value { HasEffect program.now machine.old machine.new (λ w. fired_as program.now w i x (Kind.Cond test yes no)) result }
     ensures sizes { sizes_of machine.new ≡ sizes_of machine.old }
 {
     let code = code_at(&machine.activations, i);
@@ -337,7 +239,7 @@ fn fire_switch(
     place: u32,
     a: u32,
 ) -> Result<(), NoMemory>
-    ensures value { OnOk result (state_of machine.new ≡ effected program.now (state_of machine.old) (fired_as program.now (state_of machine.old).world i x (Kind.Switch cond place a))) }
+    ensures value { HasEffect program.now machine.old machine.new (λ w. fired_as program.now w i x (Kind.Switch cond place a)) result }
     ensures sizes { sizes_of machine.new ≡ sizes_of machine.old }
 {
     let code = code_at(&machine.activations, i);
@@ -353,7 +255,7 @@ fn fire_switch(
                 program,
                 machine,
                 i,
-                find_enter(program.graph(), code, block, place),
+                find_enter(program, code, block, place),
                 v,
             )
         }
@@ -369,7 +271,7 @@ fn fire_leave(
     place: u32,
     a: u32,
 ) -> Result<(), NoMemory>
-    ensures value { OnOk result (state_of machine.new ≡ effected program.now (state_of machine.old) (fired_as program.now (state_of machine.old).world i x (Kind.Leave place a))) }
+    ensures value { HasEffect program.now machine.old machine.new (λ w. fired_as program.now w i x (Kind.Leave place a)) result }
     ensures sizes { sizes_of machine.new ≡ sizes_of machine.old }
 {
     let code = code_at(&machine.activations, i);
@@ -380,7 +282,7 @@ fn fire_leave(
                 program,
                 machine,
                 i,
-                find_merge(program.graph(), code, block, place),
+                find_merge(program, code, block, place),
                 v,
             )
         }
@@ -395,7 +297,7 @@ pub(crate) fn fire(
     i: u32,
     x: u32,
 ) -> Result<(), NoMemory>
-    ensures value { OnOk result (state_of machine.new ≡ effected program.now (state_of machine.old) (fired program.now (state_of machine.old).world i x)) }
+    ensures value { HasEffect program.now machine.old machine.new (λ w. fired program.now w i x) result }
     ensures sizes { sizes_of machine.new ≡ sizes_of machine.old }
 {
     let code = code_at(&machine.activations, i);
@@ -417,7 +319,7 @@ fn fire_kind(
     requires code { code ≡ (activation_at (state_of machine.old).world i).code }
     requires small { code < 256 }
     requires node { x < 1024 }
-    ensures value { OnOk result (state_of machine.new ≡ effected program.now (state_of machine.old) (fired_as program.now (state_of machine.old).world i x kind)) }
+    ensures value { HasEffect program.now machine.old machine.new (λ w. fired_as program.now w i x kind) result }
     ensures sizes { sizes_of machine.new ≡ sizes_of machine.old }
 {
     match kind {

@@ -4,7 +4,7 @@ ghost use Rattle.tam_graph.specs.Graphs.{code_of, operands_of};
 ghost use Rattle.tam_word.specs.Lists.{all_of};
 ghost use Rattle.tam_flow.specs.Worlds.{its_code, word_at, has_word, has_entered, activation_at};
 ghost use Rattle.tam_eval.specs.GraphRuns.{is_enabled};
-ghost use Rattle.tam_eval.specs.Eval.{world_with, activations_of, state_of};
+ghost use Rattle.tam_eval.specs.Machines.{world_with, activations_of, state_of};
 
 use crate::activation::Activation;
 use crate::nodes::{fires, node_at, test_of};

@@ -2,6 +2,7 @@
 ghost use Rattle.std.specs.Prelude.{◌≡◌, IfOk};
 ghost use Rattle.tam_graph.specs.Graphs.{code_of};
 ghost use Rattle.tam_eval.specs.Takers.{takers_of, firers_in, starters_of};
+ghost use Rattle.tam_eval.specs.Sought.{inlets_of};
 ghost use Rattle.tam_eval.specs.Tables.{AreTables, takers_kept};
 
 use crate::table::{Table, list_at};
@@ -58,6 +59,16 @@ impl<'g> Program<'g> {
     {
         match self.tables.get(code as usize) {
             Some(table) => list_at(&table.firers, block),
+            None => &[],
+        }
+    }
+
+    /// The nodes under a number, of those that are looked for by what they do.
+    pub(crate) fn inlets(&self, code: u32, key: u32) -> &[u32]
+        ensures { result.now ≡ inlets_of (code_of self.now code) key }
+    {
+        match self.tables.get(code as usize) {
+            Some(table) => list_at(&table.inlets, key),
             None => &[],
         }
     }

@@ -3,7 +3,8 @@ ghost use Rattle.std.specs.Prelude.{ℕ, ◌≡◌, [], ◌∷◌, ◌++◌, len
 ghost use Rattle.tam_word.specs.Lists.{changed_at};
 ghost use Rattle.tam_graph.specs.Graphs.{Graph};
 ghost use Rattle.tam_flow.specs.Worlds.{with_word, with_block, got, all_got, entered, changes, sends_only};
-ghost use Rattle.tam_eval.specs.Eval.{activations_of, state_of, effected, sizes_of};
+ghost use Rattle.tam_eval.specs.Machines.{activations_of, state_of, sizes_of};
+ghost use Rattle.tam_eval.specs.Effects.{effected, HasEffect};
 
 use crate::activation::Activation;
 use crate::machine::{Machine, code_at, has_entered, has_word, ready_among};
@@ -43,7 +44,7 @@ pub(crate) fn give_word(
     node: u32,
     word: u32,
 ) -> Result<(), NoMemory>
-    ensures value { OnOk result (state_of machine.new ≡ effected program.now (state_of machine.old) (changes (got (state_of machine.old).world i node word))) }
+    ensures value { HasEffect program.now machine.old machine.new (λ w. changes (got w i node word)) result }
     ensures sizes { sizes_of machine.new ≡ sizes_of machine.old }
 {
     let had = has_word(&machine.activations, i, node);
@@ -69,7 +70,7 @@ pub(crate) fn enter_block(
     i: u32,
     block: u32,
 ) -> Result<(), NoMemory>
-    ensures value { OnOk result (state_of machine.new ≡ effected program.now (state_of machine.old) (changes (entered (state_of machine.old).world i block))) }
+    ensures value { HasEffect program.now machine.old machine.new (λ w. changes (entered w i block)) result }
     ensures sizes { sizes_of machine.new ≡ sizes_of machine.old }
 {
     let had = has_entered(&machine.activations, i, block);
@@ -96,7 +97,7 @@ pub(crate) fn give_found(
     found: Option<u32>,
     word: u32,
 ) -> Result<(), NoMemory>
-    ensures value { OnOk result (state_of machine.new ≡ effected program.now (state_of machine.old) (changes (all_got (state_of machine.old).world i (option_to_list found) word))) }
+    ensures value { HasEffect program.now machine.old machine.new (λ w. changes (all_got w i (option_to_list found) word)) result }
     ensures sizes { sizes_of machine.new ≡ sizes_of machine.old }
 {
     match found {
@@ -107,7 +108,8 @@ pub(crate) fn give_found(
 
 // A message is sent.
 pub(crate) fn send(machine: &mut Machine, message: Message) -> Result<(), NoMemory>
-    ensures value { OnOk result ((g : Graph) → state_of machine.new ≡ effected g (state_of machine.old) (sends_only (state_of machine.old).world (message ∷ []))) }
+    ensures value { OnOk result ((g : Graph) → state_of machine.new ≡ effected g (state_of machine.old) (sends_only (state_of machine.old).world
+        (message ∷ []))) }
     ensures sizes { sizes_of machine.new ≡ sizes_of machine.old }
 {
     if machine.pending.send(message).is_err() {
@@ -118,7 +120,8 @@ pub(crate) fn send(machine: &mut Machine, message: Message) -> Result<(), NoMemo
 
 // The message, if there is one, is sent.
 pub(crate) fn send_found(machine: &mut Machine, message: Option<Message>) -> Result<(), NoMemory>
-    ensures value { OnOk result ((g : Graph) → state_of machine.new ≡ effected g (state_of machine.old) (sends_only (state_of machine.old).world (option_to_list message))) }
+    ensures value { OnOk result ((g : Graph) → state_of machine.new ≡ effected g (state_of machine.old) (sends_only (state_of machine.old).world
+        (option_to_list message))) }
     ensures sizes { sizes_of machine.new ≡ sizes_of machine.old }
 {
     match message {

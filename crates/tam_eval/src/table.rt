@@ -3,6 +3,7 @@ ghost use Rattle.std.specs.Prelude.{ℕ, ◌≡◌, ◌==◌, ◌&&◌, ◌≤�
 ghost use Rattle.tam_word.specs.Lists.{has, where_so};
 ghost use Rattle.tam_graph.specs.Graphs.{code_of, kind_at, operands_of, fires};
 ghost use Rattle.tam_eval.specs.Takers.{is_none};
+ghost use Rattle.tam_eval.specs.Sought.{is_keyed};
 ghost use Rattle.tam_eval.specs.Tables.{listed, IsTableOf};
 
 use crate::nodes::{fires, kind_at, nodes_of, test_of};
@@ -17,6 +18,8 @@ pub(crate) struct Table {
     pub(crate) takers: Vec<Vec<u32>>,
     /// For each block its nodes that fire.
     pub(crate) firers: Vec<Vec<u32>>,
+    /// For each number those inlets that are kept under it: a param's place, a ret's call, a merge's cond, an `in`'s block.
+    pub(crate) inlets: Vec<Vec<u32>>,
     /// Those that may fire as soon as an activation begins.
     pub(crate) starters: Vec<u32>,
 }
@@ -31,6 +34,7 @@ impl Table {
         let nodes = nodes_of(graph, code);
         let mut takers = Vec::new(alloc);
         let mut firers = Vec::new(alloc);
+        let mut inlets = Vec::new(alloc);
         for (x, node) in nodes.iter().enumerate() {
             add_node(
                 alloc,
@@ -41,11 +45,13 @@ impl Table {
                 *node,
                 x as u32,
             )?;
+            add_inlet(alloc, &mut inlets, node.block, node.kind, x as u32)?;
         }
         let starters = starters_among(alloc, graph, code, list_at(&firers, 0))?;
         Ok(Table {
             takers,
             firers,
+            inlets,
             starters,
         })
     }
@@ -148,7 +154,8 @@ fn add_node(
     node: Node,
     x: u32,
 ) -> Result<(), NoMemory>
-    ensures takers { OnOk result ((z : ℕ) → listed takers.new.items z ≡ listed takers.old.items z ++ where_so (fires node.kind && has (operands_of (code_of graph.now code) node.kind) z) x) }
+    ensures takers { OnOk result ((z : ℕ) → listed takers.new.items z ≡ listed takers.old.items z ++ where_so (fires node.kind && has (operands_of
+        (code_of graph.now code) node.kind) z) x) }
     ensures firers { OnOk result ((z : ℕ) → listed firers.new.items z ≡ listed firers.old.items z ++ where_so ((node.block == z) && fires node.kind) x) }
 {
     if !fires(node.kind) {
@@ -156,6 +163,25 @@ fn add_node(
     }
     add_takers(alloc, takers, graph, code, node.kind, x)?;
     add(alloc, firers, node.block, x)
+}
+
+// Adds an inlet that is looked for by what it does to the list of its number.
+fn add_inlet(
+    alloc: Global,
+    inlets: &mut Vec<Vec<u32>>,
+    block: u32,
+    kind: Kind,
+    x: u32,
+) -> Result<(), NoMemory>
+    ensures { OnOk result ((z : ℕ) → listed inlets.new.items z ≡ listed inlets.old.items z ++ where_so (is_keyed z block kind) x) }
+{
+    match kind {
+        Kind::Param { place } => add(alloc, inlets, place, x),
+        Kind::Ret { call, .. } => add(alloc, inlets, call, x),
+        Kind::Merge { cond, .. } => add(alloc, inlets, cond, x),
+        Kind::Enter { .. } => add(alloc, inlets, block, x),
+        _ => Ok(()),
+    }
 }
 
 // Whether a node has no operand.
@@ -176,7 +202,8 @@ fn starters_among(
     code: u32,
     nodes: &[u32],
 ) -> Result<Vec<u32>, NoMemory>
-    ensures { IfOk result (λ starters. starters.items ≡ filter (λ x. is_none (operands_of (code_of graph.now code) (kind_at (code_of graph.now code) x))) nodes.now) }
+    ensures { IfOk result (λ starters. starters.items ≡ filter (λ x. is_none (operands_of (code_of graph.now code) (kind_at
+        (code_of graph.now code) x))) nodes.now) }
 {
     let mut starters = Vec::new(alloc);
     for node in nodes {

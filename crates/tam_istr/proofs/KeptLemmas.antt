@@ -29,7 +29,8 @@ module _ (kept : List (Vec KeptCell Global)) (a i : ℕ) (array : Vec KeptCell G
   kept_sizes after =
       ap cells_used (map-set (λ (v : Vec KeptCell Global). cells_of v.items) kept a (with_item (get_or kept a array) i after))
       ∙ cells_used-set (arrays_of kept) a (cells_of (get_or kept a array).items) (cells_of (slice_set (get_or kept a array).items i after)) kept_array
-      (length-map (slice_set (get_or kept a array).items i after) cell_of ∙ length-set (get_or kept a array).items i after ∙ sym (length-map (get_or kept a array).items cell_of))
+      (length-map (slice_set (get_or kept a array).items i after) cell_of ∙ length-set (get_or kept a array).items i after
+      ∙ sym (length-map (get_or kept a array).items cell_of))
 
   module _ (cell : KeptCell) (index_inside : i < length (get_or kept a array).items) (cell_is : cell ≡ get_or (get_or kept a array).items i cell) where
     -- the cell as contracts see it
@@ -41,14 +42,16 @@ module _ (kept : List (Vec KeptCell Global)) (a i : ℕ) (array : Vec KeptCell G
     kept_found access = in_array-there i access (slice_get (arrays_of kept) a) (cells_of (get_or kept a array).items) (cell_of cell) kept_array kept_cell
 
     -- another cell written in its place
-    pub kept_written : (after : KeptCell) → arrays_of (slice_set kept a (with_item (get_or kept a array) i after)) ≡ with_cell (arrays_of kept) a i (cell_of after)
+    pub kept_written : (after : KeptCell) → arrays_of (slice_set kept a (with_item (get_or kept a array) i after)) ≡ with_cell (arrays_of kept) a i
+        (cell_of after)
     kept_written after =
         map-set (λ (v : Vec KeptCell Global). cells_of v.items) kept a (with_item (get_or kept a array) i after)
         ∙ ap (λ (l : List Cell). slice_set (arrays_of kept) a l) (map-set cell_of (get_or kept a array).items i after)
         ∙ sym (with_cell-there (arrays_of kept) a i (cells_of (get_or kept a array).items) (cell_of after) kept_array)
 
     -- one that is the same to contracts
-    pub kept_unchanged : (after : KeptCell) → cell_of after ≡ cell_of cell → arrays_of (slice_set kept a (with_item (get_or kept a array) i after)) ≡ arrays_of kept
+    pub kept_unchanged : (after : KeptCell) → cell_of after ≡ cell_of cell
+        → arrays_of (slice_set kept a (with_item (get_or kept a array) i after)) ≡ arrays_of kept
     kept_unchanged after same =
         kept_written after ∙ ap (λ (x : Cell). with_cell (arrays_of kept) a i x) same
         ∙ with_cell-same (arrays_of kept) a i (cells_of (get_or kept a array).items) (cell_of cell) kept_array kept_cell

@@ -10,7 +10,8 @@ use Rattle.tam_istr.specs.declared.cells.Fetched.TheVariants.{Now as Gave, Defer
 use Rattle.tam_istr.specs.declared.errors.AllocError.{AllocError}
 use Rattle.tam_istr.specs.declared.errors.AllocError.TheVariants.{Full, NoMemory as No_memory_for_array}
 use Rattle.tam_istr.specs.declared.errors.FetchError.{FetchError}
-use Rattle.tam_istr.specs.declared.errors.FetchError.TheVariants.{NoArray as No_array_to_fetch, OutOfRange as Fetch_out_of_range, NoMemory as No_memory_for_reader}
+use Rattle.tam_istr.specs.declared.errors.FetchError.TheVariants.{NoArray as No_array_to_fetch, OutOfRange as Fetch_out_of_range}
+use Rattle.tam_istr.specs.declared.errors.FetchError.TheVariants.{NoMemory as No_memory_for_reader}
 use Rattle.tam_istr.specs.declared.errors.StoreError.{StoreError}
 use Rattle.tam_istr.specs.declared.errors.StoreError.TheVariants.{NoArray as No_array_to_store, OutOfRange as Store_out_of_range, Twice as Second_store}
 use Rattle.tam_istr.specs.Cells.{Cell, Empty, Filled, Arrays, Access, Now, Deferred, Stored, Twice, NotBelow, NoArray, cells_used, with_array}
@@ -47,7 +48,8 @@ pub record IsWithin (arrays : Arrays) (used limit : ℕ) : Type 0 where
 abbrev pub AreShort : Arrays → Type 0
 AreShort arrays = (a : ℕ) (cells : List Cell) → slice_get arrays a ≡ Some cells → length cells < 2 ^ 32
 
--- an array was made and has the next number; or it is refused, exactly where there would be more cells than the limit, or for want of memory, and all is as before
+-- an array was made and has the next number; or it is refused, exactly where there would be more cells than the limit,
+-- or for want of memory, and all is as before
 abbrev pub AllocAnswer : CellArrays → CellArrays → ℕ → Result ℕ AllocError → Type 0
 AllocAnswer old new n (Ok number) = (number ≡ length old.arrays) × (cells_used old.arrays + n ≤ old.limit) × (new.arrays ≡ with_array old.arrays n)
 AllocAnswer old new n (Err (Full used len)) = (used ≡ cells_used old.arrays) × (len ≡ n) × (old.limit < cells_used old.arrays + n) × (new.arrays ≡ old.arrays)

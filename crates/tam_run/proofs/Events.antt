@@ -16,7 +16,8 @@ use Rattle.tam_msgs.specs.declared.stop.Stop.{Stop}
 use Rattle.tam_msgs.specs.declared.stop.Stop.TheVariants.{DoubleWrite, OutOfRange, FramesFull, CellsFull, BudgetSpent, NoMemory}
 use Rattle.tam_msgs.specs.Runs.{End, Quiet, Outcome, Next, Ended, Report, result_line, joined, last_lines, text_of}
 use Rattle.tam_eval.specs.GraphRuns.{GraphState, graph_step, graph_report, graph_told}
-use Rattle.tam_eval.specs.Eval.{EvalRun, EvalState, IsEvent, IsOutcome, state_with}
+use Rattle.tam_eval.specs.Machines.{EvalState}
+use Rattle.tam_eval.specs.Events.{EvalRun, IsEvent, IsOutcome, state_with}
 use Rattle.tam_run.specs.declared.broken.Broken.{Broken}
 use Rattle.tam_run.specs.declared.broken.Broken.TheVariants as broken
 use Rattle.tam_run.specs.declared.outcome.Outcome.{Outcome as RunOutcome}

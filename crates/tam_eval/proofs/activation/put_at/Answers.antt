@@ -1,4 +1,4 @@
-use Rattle.std.proofs.Common.{◌≡◌, ◌∙◌, sym, ap, not, true, ◌++◌, ◌∷◌, [], ◌≤◌, ◌<◌, length, is_ok, vec_len, arith}
+use Rattle.std.proofs.Common.{◌≡◌, ◌∙◌, sym, ap, not, true, ◌++◌, ◌∷◌, [], ◌≤◌, ◌<◌, length, is_ok, arith}
 use Rattle.tam_word.specs.Lists.{put_at}
 use Rattle.tam_eval.proofs.Putting.{put_at-longer, put_at-inside}
 use Rattle.tam_eval.proofs.activation.put_at.Goals as goal
@@ -8,7 +8,8 @@ loop-blank-preserved g c =
     let went : is_ok c.push.result ≡ true = c.is_err.ensures.negation ∙ ap not c.if-is_err.false in
     let longer : c.push.new.self.items ≡ c.loop-blank.list.items ++ c.args.blank ∷ [] = rw went at c.push.ensures.items in
     let short : length c.loop-blank.list.items ≤ c.args.place = omega (arith, c.loop-blank.list.ok.0, c.len.ensures, c.loop-blank-test.true) in
-    ap (put_at c.args.blank c.args.place c.args.element) longer ∙ put_at-longer c.args.blank c.args.place c.args.element c.loop-blank.list.items short ∙ c.loop-blank.invariant
+    ap (put_at c.args.blank c.args.place c.args.element) longer ∙ put_at-longer c.args.blank c.args.place c.args.element c.loop-blank.list.items short
+    ∙ c.loop-blank.invariant
 
 pub returns : goal.returns
 returns g c =

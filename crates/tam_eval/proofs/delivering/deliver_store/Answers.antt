@@ -1,9 +1,9 @@
-use Rattle.std.proofs.Common.{◌≡◌, ◌∙◌, ap, not, ◌++◌, map, ℕ, refl}
+use Rattle.std.proofs.Common.{◌≡◌, ◌∙◌, ap, not, ◌++◌, map, refl}
 use Rattle.tam_istr.specs.CellAnswers.{reader_pair}
 use Rattle.tam_msgs.specs.Messages.{answers}
 use Rattle.tam_msgs.specs.declared.message.Message.TheVariants.{Store as Put_cell}
 use Rattle.tam_flow.specs.Worlds.{accessed}
-use Rattle.tam_eval.specs.Eval.{state_of}
+use Rattle.tam_eval.specs.Machines.{state_of}
 use Rattle.tam_eval.proofs.Stepping.{ok_holds, state-cells, outcome-went}
 use Rattle.tam_eval.proofs.delivering.deliver_store.Goals as goal
 

@@ -5,4 +5,4 @@ use Rattle.tam_flow.specs.Worlds.{argument_message}
 use Rattle.tam_eval.proofs.eval.send_arguments.Given as goal
 
 abbrev pub invariant-loop-place : goal.invariant-loop-place
-invariant-loop-place l = l.pending.messages ≡ l.fn.pending.messages ++ flat_map (argument_message l.graph) (zip (below l.place) (take l.place l.args))
+invariant-loop-place l = l.pending.messages ≡ l.fn.pending.messages ++ flat_map (argument_message l.program) (zip (below l.place) (take l.place l.args))

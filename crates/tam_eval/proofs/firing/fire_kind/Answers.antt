@@ -1,5 +1,5 @@
 use Rattle.std.proofs.Common.{⊎_elim}
-use Rattle.tam_eval.specs.Eval.{state_of}
+use Rattle.tam_eval.specs.Machines.{state_of}
 use Rattle.tam_eval.proofs.Stepping.{state-same}
 use Rattle.tam_eval.proofs.firing.fire_kind.Goals as goal
 

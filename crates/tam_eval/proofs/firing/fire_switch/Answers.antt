@@ -2,7 +2,7 @@ use Rattle.std.proofs.Common.{◌≡◌, ◌∙◌, ap, ℕ}
 use Rattle.tam_graph.specs.declared.kind.Kind.TheVariants.{Switch}
 use Rattle.tam_graph.specs.Graphs.{Graph, code_of, test_of}
 use Rattle.tam_flow.specs.Worlds.{its_code, activation_at}
-use Rattle.tam_eval.specs.Eval.{state_of}
+use Rattle.tam_eval.specs.Machines.{state_of}
 use Rattle.tam_eval.proofs.Unfed.{unfed}
 use Rattle.tam_eval.proofs.firing.fire_switch.Goals as goal
 

@@ -1,6 +1,6 @@
 use Rattle.std.proofs.Common.{◌≡◌, ◌++◌, drop, map, filter}
 use Rattle.tam_eval.specs.GraphRuns.{is_enabled}
-use Rattle.tam_eval.specs.Eval.{world_with}
+use Rattle.tam_eval.specs.Machines.{world_with}
 use Rattle.tam_eval.proofs.machine.ready_among.Given as goal
 
 abbrev pub invariant-loop-node : goal.invariant-loop-node

@@ -1,5 +1,4 @@
-use Rattle.std.proofs.Common.{◌≡◌, ◌∙◌, ap, subst, sym, not, true, ◌++◌, ◌∷◌, [], ℕ, List, length, is_ok, add-one, arith}
-use Rattle.tam_eval.specs.declared.table.Table.{Table}
+use Rattle.std.proofs.Common.{◌≡◌, ◌∙◌, ap, subst, not, true, ◌++◌, ◌∷◌, [], length, is_ok, add-one, arith}
 use Rattle.tam_eval.proofs.TableLists.{AreTablesBelow, tables-next, tables-all}
 use Rattle.tam_eval.proofs.program.tables_of.Goals as goal
 
@@ -7,7 +6,8 @@ pub loop-code-preserved : goal.loop-code-preserved
 loop-code-preserved c =
     let went : is_ok c.push.result ≡ true = c.is_err.ensures.negation ∙ ap not c.if-is_err.false in
     let longer : c.push.new.self.items ≡ c.loop-code.tables.items ++ c.in_ok-table.table ∷ [] = rw went at c.push.ensures.items in
-    rw (add-one, longer) (tables-next c.args.graph.now c.loop-code.tables.items c.loop-code.code c.in_ok-table.table c.loop-code.invariant c.in_ok-table.ensures)
+    rw (add-one, longer)
+    (tables-next c.args.graph.now c.loop-code.tables.items c.loop-code.code c.in_ok-table.table c.loop-code.invariant c.in_ok-table.ensures)
 
 pub returns : goal.returns
 returns c =

@@ -1,4 +1,3 @@
-use Rattle.std.proofs.Common.{length}
 use Rattle.tam_eval.proofs.TableLists.{AreTablesBelow}
 use Rattle.tam_eval.proofs.program.tables_of.Given as goal
 

@@ -1,4 +1,4 @@
-use Rattle.tam_eval.specs.Eval.{state_of}
+use Rattle.tam_eval.specs.Machines.{state_of}
 use Rattle.tam_eval.proofs.Stepping.{state-same}
 use Rattle.tam_eval.proofs.steps.send_found.Goals as goal
 

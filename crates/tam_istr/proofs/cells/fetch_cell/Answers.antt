@@ -11,9 +11,12 @@ pub returns-then-index-len-clause-answer : goal.returns-then-index-len-clause-an
 returns-then-index-len-clause-answer c =
     let kept = c.args.arrays.now in
     let array = c.index-arrays-array.result in
-    let len : length (get_or kept c.args.array array).items ≡ c.len-then-index-len.result = sym (get_or kept c.args.array array).ok.0 ∙ sym c.len-then-index-len.ensures in
-    let beyond : length (get_or kept c.args.array array).items ≤ c.args.index = omega (arith, c.len.ensures, c.if-index-len.true, c.len-then-index-len.ensures) in (
-      kept_beyond kept c.args.array c.args.index array c.if-array-arrays.false (fetch_of (arrays_of kept) c.args.array c.args.index (reader_pair c.args.reader)) beyond ∙ ap NotBelow len,
+    let len : length (get_or kept c.args.array array).items ≡ c.len-then-index-len.result =
+    sym (get_or kept c.args.array array).ok.0 ∙ sym c.len-then-index-len.ensures in
+    let beyond : length (get_or kept c.args.array array).items ≤ c.args.index =
+    omega (arith, c.len.ensures, c.if-index-len.true, c.len-then-index-len.ensures) in (
+      kept_beyond kept c.args.array c.args.index array c.if-array-arrays.false (fetch_of (arrays_of kept) c.args.array c.args.index
+          (reader_pair c.args.reader)) beyond ∙ ap NotBelow len,
       ap arrays_of (set-get_or kept c.args.array array),
     )
 
@@ -21,24 +24,29 @@ pub returns-then-is_err-clause-answer : goal.returns-then-is_err-clause-answer
 returns-then-is_err-clause-answer c =
     let kept = c.args.arrays.now in
     let array = c.index-arrays-array.result in
-    let inside : c.args.index < length (get_or kept c.args.array array).items = omega (arith, c.len.ensures, c.if-index-len.false, (get_or kept c.args.array array).ok.0) in
+    let inside : c.args.index < length (get_or kept c.args.array array).items =
+    omega (arith, c.len.ensures, c.if-index-len.false, (get_or kept c.args.array array).ok.0) in
     let cell = Kept_empty c.in-Empty.readers in
     let is : cell ≡ get_or (get_or kept c.args.array array).items c.args.index cell = rw c.in-Empty.is at c.index_mut-cell.ensures.value in
     let failed : is_ok c.push.result ≡ false = c.is_err.ensures.negation ∙ ap not c.if-is_err.true in
     let same : c.push.new.self.items ≡ c.in-Empty.readers.items = rw failed at c.push.ensures.items in
-    let found = kept_found kept c.args.array c.args.index array c.if-array-arrays.false cell inside is (fetch_of (arrays_of kept) c.args.array c.args.index (reader_pair c.args.reader)) in (
+    let found = kept_found kept c.args.array c.args.index array c.if-array-arrays.false cell inside is (fetch_of
+    (arrays_of kept) c.args.array c.args.index (reader_pair c.args.reader)) in (
       subst IsDeferred (sym found) tt,
-      kept_unchanged kept c.args.array c.args.index array c.if-array-arrays.false cell inside is (Kept_empty c.push.new.self) (ap (λ (l : List KeptReader). Empty (map reader_pair l)) same),
+      kept_unchanged kept c.args.array c.args.index array c.if-array-arrays.false cell inside is (Kept_empty c.push.new.self) (ap (λ
+          (l : List KeptReader). Empty (map reader_pair l)) same),
     )
 
 pub returns-in-Filled-clause-answer : goal.returns-in-Filled-clause-answer
 returns-in-Filled-clause-answer c =
     let kept = c.args.arrays.now in
     let array = c.index-arrays-array.result in
-    let inside : c.args.index < length (get_or kept c.args.array array).items = omega (arith, c.len.ensures, c.if-index-len.false, (get_or kept c.args.array array).ok.0) in
+    let inside : c.args.index < length (get_or kept c.args.array array).items =
+    omega (arith, c.len.ensures, c.if-index-len.false, (get_or kept c.args.array array).ok.0) in
     let cell = Kept_filled c.in-Filled.word c.in-Filled.site in
     let is : cell ≡ get_or (get_or kept c.args.array array).items c.args.index cell = rw c.in-Filled.is at c.index_mut-cell.ensures.value in (
-      kept_found kept c.args.array c.args.index array c.if-array-arrays.false cell inside is (fetch_of (arrays_of kept) c.args.array c.args.index (reader_pair c.args.reader)),
+      kept_found kept c.args.array c.args.index array c.if-array-arrays.false cell inside is (fetch_of (arrays_of kept) c.args.array c.args.index
+          (reader_pair c.args.reader)),
       kept_unchanged kept c.args.array c.args.index array c.if-array-arrays.false cell inside is cell refl,
     )
 
@@ -46,13 +54,16 @@ pub returns-else-is_err-clause-answer : goal.returns-else-is_err-clause-answer
 returns-else-is_err-clause-answer c =
     let kept = c.args.arrays.now in
     let array = c.index-arrays-array.result in
-    let inside : c.args.index < length (get_or kept c.args.array array).items = omega (arith, c.len.ensures, c.if-index-len.false, (get_or kept c.args.array array).ok.0) in
+    let inside : c.args.index < length (get_or kept c.args.array array).items =
+    omega (arith, c.len.ensures, c.if-index-len.false, (get_or kept c.args.array array).ok.0) in
     let cell = Kept_empty c.in-Empty.readers in
     let is : cell ≡ get_or (get_or kept c.args.array array).items c.args.index cell = rw c.in-Empty.is at c.index_mut-cell.ensures.value in
     let went : is_ok c.push.result ≡ true = c.is_err.ensures.negation ∙ ap not c.if-is_err.false in
     let longer : c.push.new.self.items ≡ c.in-Empty.readers.items ++ c.args.reader ∷ [] = rw went at c.push.ensures.items in
-    let longer_pairs : map reader_pair c.push.new.self.items ≡ map reader_pair c.in-Empty.readers.items ++ reader_pair c.args.reader ∷ [] = ap (λ (l : List KeptReader). map reader_pair l) longer ∙ map-append reader_pair c.in-Empty.readers.items (c.args.reader ∷ []) in
-    kept_found kept c.args.array c.args.index array c.if-array-arrays.false cell inside is (fetch_of (arrays_of kept) c.args.array c.args.index (reader_pair c.args.reader))
+    let longer_pairs : map reader_pair c.push.new.self.items ≡ map reader_pair c.in-Empty.readers.items ++ reader_pair c.args.reader ∷ [] =
+    ap (λ (l : List KeptReader). map reader_pair l) longer ∙ map-append reader_pair c.in-Empty.readers.items (c.args.reader ∷ []) in
+    kept_found kept c.args.array c.args.index array c.if-array-arrays.false cell inside is (fetch_of (arrays_of kept) c.args.array c.args.index
+    (reader_pair c.args.reader))
     ∙ ap Deferred (ap (λ (l : List (ℕ × ℕ)). with_cell (arrays_of kept) c.args.array c.args.index (Empty l)) (sym longer_pairs)
     ∙ sym (kept_written kept c.args.array c.args.index array c.if-array-arrays.false cell inside is (Kept_empty c.push.new.self)))
 
@@ -60,10 +71,13 @@ pub returns-then-index-len-clause-sizes : goal.returns-then-index-len-clause-siz
 returns-then-index-len-clause-sizes c = ap (λ (l : _). cells_used (arrays_of l)) (set-get_or c.args.arrays.now c.args.array c.index-arrays-array.result)
 
 pub returns-then-is_err-clause-sizes : goal.returns-then-is_err-clause-sizes
-returns-then-is_err-clause-sizes c = kept_sizes c.args.arrays.now c.args.array c.args.index c.index-arrays-array.result c.if-array-arrays.false (Kept_empty c.push.new.self)
+returns-then-is_err-clause-sizes c = kept_sizes c.args.arrays.now c.args.array c.args.index c.index-arrays-array.result c.if-array-arrays.false
+    (Kept_empty c.push.new.self)
 
 pub returns-in-Filled-clause-sizes : goal.returns-in-Filled-clause-sizes
-returns-in-Filled-clause-sizes c = kept_sizes c.args.arrays.now c.args.array c.args.index c.index-arrays-array.result c.if-array-arrays.false (Kept_filled c.in-Filled.word c.in-Filled.site)
+returns-in-Filled-clause-sizes c = kept_sizes c.args.arrays.now c.args.array c.args.index c.index-arrays-array.result c.if-array-arrays.false
+    (Kept_filled c.in-Filled.word c.in-Filled.site)
 
 pub returns-else-is_err-clause-sizes : goal.returns-else-is_err-clause-sizes
-returns-else-is_err-clause-sizes c = kept_sizes c.args.arrays.now c.args.array c.args.index c.index-arrays-array.result c.if-array-arrays.false (Kept_empty c.push.new.self)
+returns-else-is_err-clause-sizes c = kept_sizes c.args.arrays.now c.args.array c.args.index c.index-arrays-array.result c.if-array-arrays.false
+    (Kept_empty c.push.new.self)

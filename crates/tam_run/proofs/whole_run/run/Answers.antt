@@ -8,7 +8,7 @@ use Rattle.tam_msgs.specs.declared.step.Step.TheVariants as step
 use Rattle.tam_msgs.specs.declared.stop.Stop.TheVariants as stop
 use Rattle.tam_msgs.specs.Runs.{Quiet, result_line}
 use Rattle.tam_eval.specs.GraphRuns.{graph_told}
-use Rattle.tam_eval.specs.Eval.{IsEvent, state_with}
+use Rattle.tam_eval.specs.Events.{IsEvent, state_with}
 use Rattle.tam_run.specs.Writing.{Writes, told_of, Finishes}
 use Rattle.tam_run.proofs.Whole.{IsLeft, left-prints, line-more}
 use Rattle.tam_run.proofs.Events.{one-event, went-left, went-smaller, ended-told, stop-ends, finish-writes, broken-writes, is-no_memory}

@@ -3,7 +3,7 @@ use Rattle.std.specs.Prelude.{None}
 use Rattle.std.specs.List.{flat_map}
 use Rattle.std.specs.Io.KnownBytes.{Appends}
 use Rattle.tam_msgs.specs.Runs.{result_line}
-use Rattle.tam_eval.specs.Eval.{state_with}
+use Rattle.tam_eval.specs.Events.{state_with}
 use Rattle.tam_run.proofs.Whole.{IsLeft}
 use Rattle.tam_run.proofs.whole_run.run.Given as goal
 

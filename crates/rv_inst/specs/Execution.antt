@@ -100,6 +100,11 @@ store_size Sw = 4
 abbrev pub jump : Hart → ℕ → ℕ → Step
 jump h rd to = elim (to % 4 == 0) [ true ↦ Done (gone_to (with_reg h rd (wrapped (h.pc + 4))) to) | false ↦ Trapped h.pc JumpAlign ]
 
+-- a branch that is taken, or not
+abbrev pub branched : Hart → Bool → ℕ → Step
+branched h true off = jump h 0 (wrapped (h.pc + off))
+branched h false off = Done (gone_on h)
+
 -- a load from an address
 abbrev pub load_from : Hart → LoadName → ℕ → ℕ → Step
 load_from h n rd a = elim (a % load_size n == 0) [
@@ -121,7 +126,7 @@ carried_out h (I n rd rs1 imm) = Done (gone_on (with_reg h rd (of_imm n (reg h r
 carried_out h (Shift n rd rs1 s) = Done (gone_on (with_reg h rd (of_shift n (reg h rs1) s)))
 carried_out h (Load n rd rs1 imm) = load_from h n rd (wrapped (reg h rs1 + imm))
 carried_out h (Store n rs1 rs2 imm) = store_to h n (wrapped (reg h rs1 + imm)) (reg h rs2)
-carried_out h (Branch n rs1 rs2 off) = elim (is_taken n (reg h rs1) (reg h rs2)) [ true ↦ jump h 0 (wrapped (h.pc + off)) | false ↦ Done (gone_on h) ]
+carried_out h (Branch n rs1 rs2 off) = branched h (is_taken n (reg h rs1) (reg h rs2)) off
 carried_out h (Lui rd imm) = Done (gone_on (with_reg h rd (imm * 4096)))
 carried_out h (Auipc rd imm) = Done (gone_on (with_reg h rd (wrapped (h.pc + imm * 4096))))
 carried_out h (Jal rd off) = jump h rd (wrapped (h.pc + off))

@@ -32,6 +32,10 @@ impl Model for Rv {
     ghost Value = { Hart };
 
     ghost view = { λ r. record { regs = r.regs; pc = r.pc; memory = r.memory.items; steps = r.steps } };
+
+    ghost use Rattle.std.specs.Prelude.{◌≡◌, slice_index};
+
+    ghost invariant = { λ r. slice_index r.regs 0 ≡ 0 };
 }
 
 impl Rv {
@@ -69,6 +73,7 @@ impl Rv {
     pub fn reg(&self, r: u32) -> u32
         requires { r < 32 }
         ensures value { result ≡ reg self.now r }
+        ensures zero { reg self.now 0 ≡ 0 }
     {
         self.regs[r as usize]
     }

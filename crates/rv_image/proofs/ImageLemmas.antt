@@ -1,5 +1,6 @@
 -- An image's file has no fault, and a file without a fault is an image's.
-use Rattle.std.proofs.Common.{◌≡◌, ℕ, zero, suc, ◌+◌, ◌-◌, ◌*◌, ◌%◌, ◌^◌, ◌<◌, ◌≤◌, ◌==◌, ◌&&◌, ◌||◌, Bool, true, false, not, nat_lt, List, [], ◌∷◌, ◌++◌, length, take, drop, refl, sym, ap, ◌∙◌, arith, tests, get_or, get_or-drop, Option, Some, None}
+use Rattle.std.proofs.Common.{◌≡◌, ℕ, zero, suc, ◌+◌, ◌-◌, ◌*◌, ◌^◌, ◌<◌, ◌≤◌, ◌==◌, Bool, true, false, not, nat_lt, List, [], ◌∷◌, ◌++◌}
+use Rattle.std.proofs.Common.{length, drop, refl, sym, ap, ◌∙◌, arith, tests, get_or-drop, Option, None}
 use Rattle.std.proofs.lemmas.List.{length-drop}
 use Rattle.rv_inst.specs.Harts.{read_at, bytes_of}
 use Rattle.rv_inst.specs.Images.{Image, bytes_of_words}
@@ -8,7 +9,7 @@ use Rattle.rv_image.specs.declared.image.TheConstants.{MAX_WORDS, MAX_PLACES}
 use Rattle.rv_image.specs.declared.reader.TheConstants.{MAGIC, VERSION, HEADER_BYTES}
 use Rattle.rv_image.specs.declared.image_error.ImageCause.{ImageCause}
 use Rattle.rv_image.specs.declared.image_error.ImageCause.TheVariants.{Magic, Version, Size, Stride, Params, Results}
-use Rattle.rv_image.specs.ImageFiles.{is_stride, IsImage, header, image_bytes, found_if, is_bad_count, header_fault, fault_of}
+use Rattle.rv_image.specs.ImageFiles.{is_stride, IsImage, header, image_bytes, found_if, is_bad_count, fault_of}
 use Rattle.rv_image.specs.ImageLaws.{AreBelow}
 use Rattle.rv_image.proofs.WordBytes.{next-word, word-there, bytes-differ, words_of, words_of-back}
 
@@ -107,7 +108,8 @@ image-read bytes words b h e =
     let p : filed (read_at bytes 0 4) (read_at bytes 4 4) (read_at bytes 8 4) (read_at bytes 12 4) (read_at bytes 16 4) (read_at bytes 20 4) (drop 24 bytes)
     ≡ bytes = six bytes b s.whole in
     let q : bytes ≡ image_bytes (image_with bytes words) =
-    sym p ∙ (ap (λ (x : ℕ). filed x (read_at bytes 4 4) (read_at bytes 8 4) (read_at bytes 12 4) (read_at bytes 16 4) (read_at bytes 20 4) (drop 24 bytes)) s.magic
+    sym p
+    ∙ (ap (λ (x : ℕ). filed x (read_at bytes 4 4) (read_at bytes 8 4) (read_at bytes 12 4) (read_at bytes 16 4) (read_at bytes 20 4) (drop 24 bytes)) s.magic
     ∙ (ap (λ (x : ℕ). filed MAGIC x (read_at bytes 8 4) (read_at bytes 12 4) (read_at bytes 16 4) (read_at bytes 20 4) (drop 24 bytes)) s.version
     ∙ (ap (λ (x : ℕ). filed MAGIC VERSION x (read_at bytes 12 4) (read_at bytes 16 4) (read_at bytes 20 4) (drop 24 bytes)) n
     ∙ ap (λ (x : List ℕ). filed MAGIC VERSION (length words) (read_at bytes 12 4) (read_at bytes 16 4) (read_at bytes 20 4) x) (sym e)))) in
@@ -124,7 +126,8 @@ pub no-fault-image : (bytes : List ℕ) → AreBelow (2 ^ 8) bytes → fault_of 
 no-fault-image bytes b h =
     let s = header-said bytes h in
     let c : AreBelow 256 (drop 24 bytes) = λ k. rw get_or-drop (b (24 + k)) in
-    let m : length (drop 24 bytes) ≡ 4 * read_at bytes 8 4 = let z : length bytes ≡ HEADER_BYTES + 4 * read_at bytes 8 4 = s.size in simp length-drop (omega arith) in
+    let z : length bytes ≡ HEADER_BYTES + 4 * read_at bytes 8 4 = s.size in
+    let m : length (drop 24 bytes) ≡ 4 * read_at bytes 8 4 = simp length-drop (omega arith) in
     let words : List ℕ = words_of (read_at bytes 8 4) (drop 24 bytes) in
     let r = image-read bytes words b h (words_of-back (read_at bytes 8 4) (drop 24 bytes) c m) in
     (image_with bytes words, r.0, r.1)

@@ -1,6 +1,7 @@
 -- Which bytes are the file of an image, and what is the first fault of others.
 -- The rules in words: docs/FORMATS.md, "Image file".
-use Rattle.std.specs.Prelude.{◌≡◌, ℕ, ◌+◌, ◌*◌, ◌%◌, ◌<◌, ◌≤◌, Bool, true, false, not, ◌&&◌, ◌||◌, ◌==◌, nat_lt, nat_le, List, [], ◌∷◌, ◌++◌, length, Option, Some, None, Result, Ok, Err}
+use Rattle.std.specs.Prelude.{◌≡◌, ℕ, ◌+◌, ◌*◌, ◌%◌, ◌<◌, ◌≤◌, Bool, true, false, not, ◌&&◌, ◌||◌, ◌==◌, nat_lt, nat_le, List, [], ◌∷◌, ◌++◌, length, Option}
+use Rattle.std.specs.Prelude.{Some, None, Result, Ok, Err}
 use Rattle.rv_inst.specs.Harts.{read_at}
 use Rattle.rv_inst.specs.Images.{Image, bytes_of_words}
 use Rattle.rv_image.specs.declared.image.TheConstants.{MAX_WORDS, MIN_STRIDE, MAX_STRIDE, MAX_PLACES}

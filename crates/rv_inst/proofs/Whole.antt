@@ -1,5 +1,5 @@
 -- A word's own fields, packed as each format says, are the word.
-use Rattle.std.proofs.Common.{◌≡◌, ℕ, ◌+◌, ◌-◌, ◌/◌, ◌%◌, ◌^◌, ◌<◌, ◌≤◌, [], ◌∷◌, ap, ◌∙◌, arith, inl, inr}
+use Rattle.std.proofs.Common.{◌≡◌, ℕ, ◌%◌, ◌^◌, ◌<◌, [], ◌∷◌, arith, inl, inr}
 use Rattle.rv_inst.specs.Fields.{packed, bits, part, extended, rd_of, rs1_of, rs2_of, i_imm, s_imm, b_off, j_off}
 use Rattle.rv_inst.specs.Instructions.{r_word, i_word, s_word, b_word, u_word, j_word}
 use Rattle.rv_inst.proofs.Fields.{packed-below}

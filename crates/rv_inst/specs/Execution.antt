@@ -4,7 +4,9 @@ use Rattle.std.specs.Prelude.{ℕ, ◌+◌, ◌*◌, ◌/◌, ◌%◌, ◌^◌, 
 use Rattle.std.proofs.Common.{to_z, of_z, w32, w64}
 use Rattle.tam_word.specs.declared.op.Op.TheVariants.{Add, Sub, Mul, Div, Divu, Rem, Remu, And, Or, Xor, Sll, Srl, Sra, Slt, Sltu}
 use Rattle.rv_inst.specs.declared.r_name.RName.{RName}
-use Rattle.rv_inst.specs.declared.r_name.RName.TheVariants.{Add as R_add, Sub as R_sub, Sll as R_sll, Slt as R_slt, Sltu as R_sltu, Xor as R_xor, Srl as R_srl, Sra as R_sra, Or as R_or, And as R_and, Mul as R_mul, Mulh as R_mulh, Mulhsu as R_mulhsu, Mulhu as R_mulhu, Div as R_div, Divu as R_divu, Rem as R_rem, Remu as R_remu}
+use Rattle.rv_inst.specs.declared.r_name.RName.TheVariants.{Add as R_add, Sub as R_sub, Sll as R_sll, Slt as R_slt, Sltu as R_sltu, Xor as R_xor}
+use Rattle.rv_inst.specs.declared.r_name.RName.TheVariants.{Srl as R_srl, Sra as R_sra, Or as R_or, And as R_and, Mul as R_mul, Mulh as R_mulh}
+use Rattle.rv_inst.specs.declared.r_name.RName.TheVariants.{Mulhsu as R_mulhsu, Mulhu as R_mulhu, Div as R_div, Divu as R_divu, Rem as R_rem, Remu as R_remu}
 use Rattle.rv_inst.specs.declared.i_name.IName.{IName}
 use Rattle.rv_inst.specs.declared.i_name.IName.TheVariants.{Addi, Slti, Sltiu, Xori, Ori, Andi}
 use Rattle.rv_inst.specs.declared.shift_name.ShiftName.{ShiftName}
@@ -109,14 +111,20 @@ branched h false off = Done (gone_on h)
 abbrev pub load_from : Hart → LoadName → ℕ → ℕ → Step
 load_from h n rd a = elim (a % load_size n == 0) [
   | false ↦ Trapped h.pc LoadAlign
-  | true ↦ elim (nat_le (a + load_size n) (length h.memory)) [ true ↦ Done (gone_on (with_reg h rd (loaded n (read_at h.memory a (load_size n))))) | false ↦ Trapped h.pc LoadAddress ]
+  | true ↦ elim (nat_le (a + load_size n) (length h.memory)) [
+    | true ↦ Done (gone_on (with_reg h rd (loaded n (read_at h.memory a (load_size n)))))
+    | false ↦ Trapped h.pc LoadAddress
+  ]
 ]
 
 -- a store to an address
 abbrev pub store_to : Hart → StoreName → ℕ → ℕ → Step
 store_to h n a w = elim (a % store_size n == 0) [
   | false ↦ Trapped h.pc StoreAlign
-  | true ↦ elim (nat_le (a + store_size n) (length h.memory)) [ true ↦ Done (gone_on (record h { memory = written_at h.memory a (store_size n) w })) | false ↦ Trapped h.pc StoreAddress ]
+  | true ↦ elim (nat_le (a + store_size n) (length h.memory)) [
+    | true ↦ Done (gone_on (record h { memory = written_at h.memory a (store_size n) w }))
+    | false ↦ Trapped h.pc StoreAddress
+  ]
 ]
 
 -- an instruction is carried out

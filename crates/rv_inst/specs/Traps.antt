@@ -2,7 +2,8 @@
 -- The rules in words: docs/FORMATS.md, "RV32IM".
 use Rattle.std.specs.Prelude.{ℕ, List, codes}
 use Rattle.rv_inst.specs.declared.trap_cause.TrapCause.{TrapCause}
-use Rattle.rv_inst.specs.declared.trap_cause.TrapCause.TheVariants.{FetchAddress, JumpAlign, Unknown, LoadAddress, StoreAddress, LoadAlign, StoreAlign, Break, NoPoll}
+use Rattle.rv_inst.specs.declared.trap_cause.TrapCause.TheVariants.{FetchAddress, JumpAlign, Unknown, LoadAddress, StoreAddress, LoadAlign, StoreAlign, Break}
+use Rattle.rv_inst.specs.declared.trap_cause.TrapCause.TheVariants.{NoPoll}
 
 -- the name of a cause
 abbrev pub trap_text : TrapCause → List ℕ

@@ -1,5 +1,5 @@
 -- What the fields say is exact.
-use Rattle.std.proofs.Common.{ℕ, Option, ◌^◌, ◌<◌, sym, subst, arith}
+use Rattle.std.proofs.Common.{Option, ◌^◌, ◌<◌, sym, subst, arith}
 use Rattle.rv_inst.specs.declared.inst.Inst.{Inst}
 use Rattle.rv_inst.specs.Ranges.{IsDecoded}
 use Rattle.rv_inst.proofs.Exact.{fields-exact, exact-decoded}

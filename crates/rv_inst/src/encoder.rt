@@ -1,7 +1,7 @@
 // The word of an instruction.
-ghost use Rattle.std.specs.Prelude.{◌≡◌, ◌*◌, ◌%◌, ◌^◌, ◌+◌, ◌<◌, ◌≤◌};
+ghost use Rattle.std.specs.Prelude.{◌≡◌, [], ◌∷◌, ◌*◌, ◌%◌, ◌^◌, ◌+◌, ◌<◌, ◌≤◌};
 ghost use Rattle.rv_inst.specs.Rows.{code};
-ghost use Rattle.rv_inst.specs.Instructions.{encoded, r_word, i_word, s_word, b_word, u_word, j_word};
+ghost use Rattle.rv_inst.specs.Instructions.{encoded, decoded, r_word, i_word, s_word, b_word, u_word, j_word};
 
 use crate::inst::{EBREAK, ECALL, FENCE_FUNCT3, JALR_FUNCT3};
 use crate::opcode::Opcode;
@@ -12,6 +12,14 @@ use crate::{Inst, Reg};
 ///
 /// docs/FORMATS.md, "RV32IM".
 pub fn encode(inst: &Inst) -> u32
+    ensures value { result ≡ encoded inst.now }
+    ensures decodes { decoded result ≡ inst.now ∷ [] }
+{
+    inst.keep_ranges();
+    word_of(inst)
+}
+
+fn word_of(inst: &Inst) -> u32
     ensures value { result ≡ encoded inst.now }
 {
     match inst {

@@ -1,8 +1,19 @@
 // An instruction of RV32IM.
+ghost use Rattle.rv_inst.specs.Ranges.{IsInRange};
+
 use crate::{
     Bits12, BranchName, IName, Imm12, Imm20, LoadName, Off13, Off21, RName, Reg, ShiftName,
     StoreName,
 };
+
+/// The function field of `jalr`, the only instruction of its opcode.
+pub const JALR_FUNCT3: u32 = 0b000;
+/// That of `fence`, as far as RV32IM goes.
+pub const FENCE_FUNCT3: u32 = 0b000;
+/// The two words of the opcode `System` that are instructions here.
+pub const ECALL: u32 = 0x0000_0073;
+
+pub const EBREAK: u32 = 0x0010_0073;
 
 /// An instruction of RV32IM. Each field keeps its range in its type, so that each instruction has a word.
 ///
@@ -71,11 +82,40 @@ pub enum Inst {
     Ebreak,
 }
 
-/// The function field of `jalr`, the only instruction of its opcode.
-pub const JALR_FUNCT3: u32 = 0b000;
-/// That of `fence`, as far as RV32IM goes.
-pub const FENCE_FUNCT3: u32 = 0b000;
-/// The two words of the opcode `System` that are instructions here.
-pub const ECALL: u32 = 0x0000_0073;
-
-pub const EBREAK: u32 = 0x0010_0073;
+impl Inst {
+    /// Tells that the fields are in their ranges, which their types keep.
+    pub fn keep_ranges(&self)
+        ensures in_range { IsInRange self.now }
+    {
+        match self {
+            Inst::R { rd, rs1, rs2, .. } => {
+                let _ = (rd.number(), rs1.number(), rs2.number());
+            }
+            Inst::I { rd, rs1, imm, .. } => {
+                let _ = (rd.number(), rs1.number(), imm.word());
+            }
+            Inst::Shift { rd, rs1, by, .. } => {
+                let _ = (rd.number(), rs1.number(), by.number());
+            }
+            Inst::Load { rd, rs1, imm, .. } | Inst::Jalr { rd, rs1, imm } => {
+                let _ = (rd.number(), rs1.number(), imm.word());
+            }
+            Inst::Store { rs1, rs2, imm, .. } => {
+                let _ = (rs1.number(), rs2.number(), imm.word());
+            }
+            Inst::Branch { rs1, rs2, off, .. } => {
+                let _ = (rs1.number(), rs2.number(), off.word());
+            }
+            Inst::Lui { rd, imm } | Inst::Auipc { rd, imm } => {
+                let _ = (rd.number(), imm.number());
+            }
+            Inst::Jal { rd, off } => {
+                let _ = (rd.number(), off.word());
+            }
+            Inst::Fence { rd, rs1, bits } => {
+                let _ = (rd.number(), rs1.number(), bits.number());
+            }
+            Inst::Ecall | Inst::Ebreak => {}
+        }
+    }
+}

@@ -1,0 +1,2 @@
+pub mod InstNames
+pub mod AsmText

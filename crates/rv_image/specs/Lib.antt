@@ -1,0 +1,2 @@
+pub mod ImageFiles
+pub mod ImageLaws

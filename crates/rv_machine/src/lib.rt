@@ -1,0 +1,16 @@
+//! A machine of RV32IM over an image: one step is one row of the standard's tables.
+//!
+//! Over the crates of words, of the edge, of instructions and of images. The host of machine code stands on this crate.
+//! Read `src/rv.rt` first, then `specs/Answers.antt` (what a step answers and leaves) and the definition of a step, `Execution` of `rv_inst`.
+//! Of use by itself: it carries out any image, and tells a call of the host and each trap with its cause.
+#![tactic(auto)]
+
+mod arithmetic;
+mod execute;
+mod memory_access;
+mod rv;
+mod rv_step;
+
+pub use rv::Rv;
+pub use rv_inst::TrapCause;
+pub use rv_step::RvStep;

@@ -1,0 +1,330 @@
+// The machine.
+ghost use Rattle.std.specs.Prelude.{◌≡◌, ◌<◌, ◌≤◌, ◌*◌, ◌++◌, replicate, IfOk};
+ghost use Rattle.tam_word.specs.Words.{wrapped};
+ghost use Rattle.rv_inst.specs.Harts.{reg, with_reg, gone_to, gone_on};
+ghost use Rattle.rv_inst.specs.Execution.{hart_step, jump, load_from, store_to};
+ghost use Rattle.rv_inst.specs.Images.{bytes_of_words, hart_opening};
+ghost use Rattle.rv_machine.specs.Answers.{answer, counted, state_after};
+
+use crate::RvStep;
+use crate::execute::carry_out;
+use crate::memory_access::{load, load_size, store, store_size};
+use rv_image::Image;
+use rv_inst::{LoadName, Reg, StoreName, TrapCause, decode, word_at};
+use std::alloc::Global;
+use std::marker::Model;
+use tam_edge::NoMemory;
+
+/// A machine of RV32IM: registers, pc, the bytes of the memory, and the number of steps that did not trap.
+///
+/// docs/FORMATS.md, "RV32IM".
+#[derive(Drop)]
+pub struct Rv {
+    regs: [u32; 32],
+    pc: u32,
+    memory: Vec<u8>,
+    steps: u64,
+}
+
+impl Model for Rv {
+    ghost use Rattle.rv_inst.specs.Harts.{Hart};
+
+    ghost Value = { Hart };
+
+    ghost view = { λ r. record { regs = r.regs; pc = r.pc; memory = r.memory.items; steps = r.steps } };
+
+    ghost use Rattle.std.specs.Prelude.{◌≡◌, slice_index};
+
+    ghost invariant = { λ r. slice_index r.regs 0 ≡ 0 };
+}
+
+impl Rv {
+    /// The machine at the first word of an image, with room for so many frames behind the last.
+    pub fn new(alloc: Global, image: &Image, frames: u32) -> Result<Rv, NoMemory>
+        requires least { 1 ≤ frames }
+        requires most { frames ≤ 16384 }
+        ensures value { IfOk result (λ rv. rv ≡ hart_opening image.now frames) }
+    {
+        let memory = memory_of(alloc, image, frames)?;
+        Ok(Rv {
+            regs: [0; 32],
+            pc: 0,
+            memory,
+            steps: 0,
+        })
+    }
+
+    /// Makes one step.
+    pub fn step(&mut self) -> RvStep
+        ensures value { result ≡ answer (hart_step self.old) }
+        ensures after { self.new ≡ state_after self.old (hart_step self.old) }
+    {
+        let at = self.pc as usize;
+        if at + 4 > self.memory.len() {
+            return self.trap(TrapCause::FetchAddress);
+        }
+        match decode(word_at(&self.memory, at)) {
+            None => self.trap(TrapCause::Unknown),
+            Some(inst) => carry_out(self, &inst),
+        }
+    }
+
+    /// The word of a register.
+    pub fn reg(&self, r: u32) -> u32
+        requires { r < 32 }
+        ensures value { result ≡ reg self.now r }
+        ensures zero { reg self.now 0 ≡ 0 }
+    {
+        self.regs[r as usize]
+    }
+
+    /// Gives a register a word; register 0 stays 0.
+    pub fn set_reg(&mut self, r: u32, w: u32)
+        requires { r < 32 }
+        ensures value { self.new ≡ with_reg self.old r w }
+    {
+        if r != 0 {
+            self.regs[r as usize] = w;
+        }
+    }
+
+    pub fn pc(&self) -> u32
+        ensures value { result ≡ self.now.pc }
+    {
+        self.pc
+    }
+
+    /// The number of steps that did not trap.
+    pub fn steps(&self) -> u64
+        ensures value { result ≡ self.now.steps }
+    {
+        self.steps
+    }
+
+    // A trap at pc.
+    pub(crate) fn trap(&self, cause: TrapCause) -> RvStep
+        ensures value { result ≡ RvStep.Trap self.now.pc cause }
+    {
+        RvStep::Trap { pc: self.pc, cause }
+    }
+
+    // A step was made, and the next instruction is at `pc`.
+    pub(crate) fn go_to(&mut self, pc: u32)
+        ensures value { self.new ≡ counted (gone_to self.old pc) }
+    {
+        self.pc = pc;
+        self.steps = self.steps.saturating_add(1);
+    }
+
+    // Or behind this one.
+    pub(crate) fn go_on(&mut self)
+        ensures value { self.new ≡ counted (gone_on self.old) }
+    {
+        self.go_to(self.pc().wrapping_add(4));
+    }
+
+    // A jump, with the return address in rd.
+    pub(crate) fn jump(&mut self, rd: u32, to: u32) -> RvStep
+        requires { rd < 32 }
+        ensures value { result ≡ answer (jump self.old rd to) }
+        ensures after { self.new ≡ state_after self.old (jump self.old rd to) }
+    {
+        if to % 4 != 0 {
+            return self.trap(TrapCause::JumpAlign);
+        }
+        self.set_reg(rd, self.pc().wrapping_add(4));
+        self.go_to(to);
+        RvStep::Done
+    }
+
+    // A load from an address.
+    pub(crate) fn load_from(&mut self, name: LoadName, rd: &Reg, address: u32) -> RvStep
+        ensures value { result ≡ answer (load_from self.old name rd.now address) }
+        ensures after { self.new ≡ state_after self.old (load_from self.old name rd.now address) }
+    {
+        let size = load_size(name);
+        if address % size != 0 {
+            return self.trap(TrapCause::LoadAlign);
+        }
+        if address as usize + size as usize > self.memory.len() {
+            return self.trap(TrapCause::LoadAddress);
+        }
+        let word = load(&self.memory, name, address as usize);
+        self.set_reg(rd.number(), word);
+        self.go_on();
+        RvStep::Done
+    }
+
+    // A store to an address.
+    pub(crate) fn store_to(&mut self, name: StoreName, address: u32, word: u32) -> RvStep
+        ensures value { result ≡ answer (store_to self.old name address word) }
+        ensures after { self.new ≡ state_after self.old (store_to self.old name address word) }
+    {
+        let size = store_size(name);
+        if address % size != 0 {
+            return self.trap(TrapCause::StoreAlign);
+        }
+        if address as usize + size as usize > self.memory.len() {
+            return self.trap(TrapCause::StoreAddress);
+        }
+        store(&mut self.memory, name, address as usize, word);
+        self.go_on();
+        RvStep::Done
+    }
+}
+
+// The bytes of the words, and so many frames of zero bytes.
+fn memory_of(alloc: Global, image: &Image, frames: u32) -> Result<Vec<u8>, NoMemory>
+    requires { frames ≤ 16384 }
+    ensures value { IfOk result (λ memory. memory.items ≡ bytes_of_words image.now.words ++ replicate (frames * image.now.stride) 0) }
+{
+    let room = frames as usize * image.stride() as usize;
+    let size = 4 * image.words().len() + room;
+    let Ok(mut memory) = Vec::with_capacity(alloc, size) else {
+        return Err(NoMemory);
+    };
+    image.append_words(&mut memory)?;
+    let len = memory.len();
+    if memory.resize(len + room, 0).is_err() {
+        return Err(NoMemory);
+    }
+    Ok(memory)
+}
+
+#[cfg(test)]
+mod tests {
+    use super::*;
+    use std::test::Fail;
+
+    // The machine at these words, with one frame of 32 bytes.
+    fn machine(alloc: Global, words: &[u32]) -> Result<Rv, Fail> {
+        if words.is_empty() || words.len() > 100 {
+            return Err(Fail::from("an image"));
+        }
+        let image = Image::of(32, 0, 0, words.to_vec(alloc)?);
+        Ok(Rv::new(alloc, &image, 1).map_err(|_| "no memory")?)
+    }
+
+    // Programs worked by hand: so many steps, and the registers then. The divisions at the edges are those of the manual's table
+    // "Semantics for division by zero and division overflow".
+    #[test]
+    fn programs_leave_their_registers(rt: HostRuntime) -> Result<(), Fail> {
+        let cases: [(&[u32], &[(u32, u32)]); 4] = [
+            // lui x5, 524288; addi x6, x0, -1; div x7, x5, x6; rem x8, x5, x6; div x9, x5, x0; rem x10, x5, x0
+            (
+                &[
+                    0x8000_02b7,
+                    0xfff0_0313,
+                    0x0262_c3b3,
+                    0x0262_e433,
+                    0x0202_c4b3,
+                    0x0202_e533,
+                ],
+                &[
+                    (7, 0x8000_0000),
+                    (8, 0),
+                    (9, 0xffff_ffff),
+                    (10, 0x8000_0000),
+                ],
+            ),
+            // lui x5, 524288; addi x6, x0, -1; mulh x7, x5, x5; mulhsu x8, x6, x6; mulhu x9, x6, x6
+            (
+                &[
+                    0x8000_02b7,
+                    0xfff0_0313,
+                    0x0252_93b3,
+                    0x0263_2433,
+                    0x0263_34b3,
+                ],
+                &[(7, 0x4000_0000), (8, 0xffff_ffff), (9, 0xffff_fffe)],
+            ),
+            // addi x6, x0, -1; sb x6, 33(x0); lb x7, 33(x0); lbu x8, 33(x0); lh x9, 32(x0); lhu x10, 32(x0); lw x11, 32(x0)
+            (
+                &[
+                    0xfff0_0313,
+                    0x0260_00a3,
+                    0x0210_0383,
+                    0x0210_4403,
+                    0x0200_1483,
+                    0x0200_5503,
+                    0x0200_2583,
+                ],
+                &[
+                    (7, 0xffff_ffff),
+                    (8, 0xff),
+                    (9, 0xffff_ff00),
+                    (10, 0xff00),
+                    (11, 0xff00),
+                ],
+            ),
+            // addi x0, x0, -1; sltiu x7, x0, -1; slti x8, x0, -1; auipc x5, 1
+            (
+                &[0xfff0_0013, 0xfff0_3393, 0xfff0_2413, 0x0000_1297],
+                &[(0, 0), (7, 1), (8, 0), (5, 0x100c)],
+            ),
+        ];
+        for (words, registers) in cases {
+            let mut rv = machine(rt.alloc(), words)?;
+            for _ in words {
+                assert_eq!(rt; rv.step(), RvStep::Done, "in {words:?}");
+            }
+            for (r, word) in registers {
+                assert!(rt; *r < 32);
+                assert_eq!(rt; rv.reg(*r), *word, "x{r} of {words:?}");
+            }
+            assert_eq!(rt; rv.steps(), words.len() as u64);
+        }
+        Ok(())
+    }
+
+    // Each alone at address 0, in a memory of 36 bytes.
+    #[test]
+    fn a_trap_changes_nothing(rt: HostRuntime) -> Result<(), Fail> {
+        let cases = [
+            (0x0020_00ef, TrapCause::JumpAlign),
+            (0x0020_2083, TrapCause::LoadAlign),
+            (0x0000_2123, TrapCause::StoreAlign),
+            (0xffc0_2083, TrapCause::LoadAddress),
+            (0xfe00_0fa3, TrapCause::StoreAddress),
+            (0x0000_0000, TrapCause::Unknown),
+            (0x0010_0073, TrapCause::Break),
+        ];
+        for (word, cause) in cases {
+            let mut rv = machine(rt.alloc(), &[word])?;
+            assert_eq!(rt; rv.step(), RvStep::Trap { pc: 0, cause }, "at {word:#010x}");
+            assert_eq!(rt;
+                (rv.pc(), rv.steps(), rv.reg(1)),
+                (0, 0, 0),
+                "at {word:#010x}"
+            );
+        }
+        Ok(())
+    }
+
+    // addi x1, x0, 8; jalr x1, 5(x1); then at 12 a call, and a jump far away
+    #[test]
+    fn jumps_and_calls(rt: HostRuntime) -> Result<(), Fail> {
+        let words = [
+            0x0080_0093,
+            0x0050_80e7,
+            0x0010_0073,
+            0x0000_0073,
+            0x7fdf_f0ef,
+        ];
+        let mut rv = machine(rt.alloc(), &words)?;
+        assert_eq!(rt; rv.step(), RvStep::Done);
+        assert_eq!(rt; rv.step(), RvStep::Done);
+        assert_eq!(rt; (rv.pc(), rv.reg(1)), (12, 8));
+        assert_eq!(rt; rv.step(), RvStep::Ecall);
+        rv.set_reg(10, 7);
+        rv.set_reg(0, 7);
+        assert_eq!(rt; (rv.pc(), rv.reg(10), rv.reg(0)), (16, 7, 0));
+        assert_eq!(rt; rv.step(), RvStep::Done);
+        let far = RvStep::Trap {
+            pc: 0x10_000c,
+            cause: TrapCause::FetchAddress,
+        };
+        assert_eq!(rt; rv.step(), far);
+        Ok(())
+    }
+}

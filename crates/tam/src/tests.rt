@@ -14,6 +14,7 @@ const EMPTY: &[u8] = b"dg 1\ncode main\nend\n";
 const CALL: &[u8] = b"dg 1\ncode main\nf = call main\nend\n";
 
 // Words, the text of the file `f`, the numbers of the writes that fail; what the sink took, and the status.
+#[derive(Drop)]
 struct Case {
     words: &'static [&'static str],
     text: &'static [u8],

@@ -9,7 +9,8 @@ use Rattle.tam_graph.specs.declared.kind.Kind.TheVariants.{Op as Operate, Seq, C
 use Rattle.tam_graph.specs.Edges.{reaches}
 use Rattle.tam_graph.specs.Graphs.{Code, Graph, code_of, kind_at, block_at, operands_of, node_numbers, has_value, fires, test_of, test_of_kind}
 use Rattle.tam_graph.specs.Written.{named_by, is_operand, is_call_node, is_cond_node, is_line}
-use Rattle.tam_graph.specs.Accepted.{IsAccepted, in_wrong_block, is_wrong_block, Wrong_block}
+use Rattle.tam_graph.specs.declared.check_cause.CheckCause.TheVariants.{WrongBlock as Wrong_block}
+use Rattle.tam_graph.specs.Accepted.{IsAccepted, in_wrong_block, is_wrong_block}
 use Rattle.tam_graph.proofs.Reaching.{reaches-self}
 use Rattle.tam_graph.proofs.Uncycled.{no-fault}
 use Rattle.tam_split.specs.declared.vertex.Vertex.{Vertex}

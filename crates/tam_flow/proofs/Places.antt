@@ -4,8 +4,8 @@ use Rattle.std.specs.List.{AllByRecursion}
 use Rattle.tam_word.specs.Lists.{any_of, first_of, below, has, where_so}
 use Rattle.tam_graph.specs.declared.kind.Kind.TheVariants.{Param, Ret, Merge}
 use Rattle.tam_graph.specs.Graphs.{Graph, code_of, kind_at, block_at, node_numbers, node_where, is_param, is_ret, is_merge}
+use Rattle.tam_graph.specs.declared.check_cause.CheckCause.TheVariants.{WrongBlock as Wrong_block, PlaceTwice as Place_twice}
 use Rattle.tam_graph.specs.Accepted.{IsAccepted, is_wrong_block, is_place_twice, same_place}
-use Rattle.tam_graph.specs.Accepted.{Wrong_block, Place_twice}
 use Rattle.tam_word.proofs.Tests.{true-both, number-eq, self-eq}
 use Rattle.tam_word.proofs.Each.{append-nil, where_so-nil, below-each}
 use Rattle.tam_flow.proofs.Nodes.{no-faults, is-param, is-ret, is-merge}

@@ -10,8 +10,10 @@ use Rattle.tam_graph.specs.declared.kind.Kind.{Kind}
 use Rattle.tam_graph.specs.declared.kind.Kind.TheVariants.{Call, Cond, Enter}
 use Rattle.tam_graph.specs.Graphs.{Code, Graph, code_of, or_kind, kind_at, node_numbers}
 use Rattle.tam_graph.specs.Written.{is_operand, is_call_node, is_cond_node, is_line}
-use Rattle.tam_graph.specs.Accepted.{Cause, Depth_mismatch, Main_type, is_wrong_block, is_place_twice, is_place_range, is_place_missing, is_main_type}
-use Rattle.tam_graph.specs.Accepted.{is_cycle, has_right_depth, faults_at, faults_of, IsAccepted, Wrong_block, Place_twice, Place_range, Place_missing, Cycle}
+use Rattle.tam_graph.specs.declared.check_cause.CheckCause.{CheckCause}
+use Rattle.tam_graph.specs.declared.check_cause.CheckCause.TheVariants.{DepthMismatch as Depth_mismatch, MainType as Main_type, WrongBlock as Wrong_block, PlaceTwice as Place_twice, PlaceRange as Place_range, PlaceMissing as Place_missing, Cycle}
+use Rattle.tam_graph.specs.Accepted.{is_wrong_block, is_place_twice, is_place_range, is_place_missing, is_main_type}
+use Rattle.tam_graph.specs.Accepted.{is_cycle, has_right_depth, faults_at, faults_of, IsAccepted}
 
 -- a node that does something else than `in` 0 is there
 pub node-there : (c : Code) (x : ℕ) → ((kind_at c x ≡ Enter 0) → ⊥) → x < length c.nodes
@@ -25,15 +27,15 @@ node-there c x n = go (slice_get c.nodes x) refl
 
 module _ (g : Graph) (acc : IsAccepted g) (n : ℕ) (l : n < length g.codes) where
   -- no node has a fault
-  no-fault-at : (x : ℕ) → x < length (code_of g n).nodes → (f : Cause) → In f (faults_at g n x) → ⊥
+  no-fault-at : (x : ℕ) → x < length (code_of g n).nodes → (f : CheckCause) → In f (faults_at g n x) → ⊥
   no-fault-at x m f a =
-      let in-node = map-in (λ (f : Cause). (n, x, f)) f (faults_at g n x) a in
-      let in-code = flat_map-in (λ (x : ℕ). map (λ (f : Cause). (n, x, f)) (faults_at g n x)) x (n, x, f) (node_numbers (code_of g n))
+      let in-node = map-in (λ (f : CheckCause). (n, x, f)) f (faults_at g n x) a in
+      let in-code = flat_map-in (λ (x : ℕ). map (λ (f : CheckCause). (n, x, f)) (faults_at g n x)) x (n, x, f) (node_numbers (code_of g n))
       (below-in x (length (code_of g n).nodes) m) in-node in
-      let in-graph = flat_map-in (λ (n : ℕ). flat_map (λ (x : ℕ). map (λ (f : Cause). (n, x, f)) (faults_at g n x)) (node_numbers (code_of g n))) n (n, x, f) (below (length g.codes)) (below-in n (length g.codes) l) in-code in
+      let in-graph = flat_map-in (λ (n : ℕ). flat_map (λ (x : ℕ). map (λ (f : CheckCause). (n, x, f)) (faults_at g n x)) (node_numbers (code_of g n))) n (n, x, f) (below (length g.codes)) (below-in n (length g.codes) l) in-code in
       none (faults_of g) acc.no_fault in-graph
     where
-      none : (fs : List (ℕ × ℕ × Cause)) → fs ≡ [] → In (n, x, f) fs → ⊥
+      none : (fs : List (ℕ × ℕ × CheckCause)) → fs ≡ [] → In (n, x, f) fs → ⊥
       none fs e b = let z = rw e at b in z
 
   -- a cause that holds is told

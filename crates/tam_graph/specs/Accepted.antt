@@ -3,13 +3,11 @@ use Rattle.std.specs.Prelude.{ℕ, suc, ◌≡◌, Bool, true, false, ◌&&◌, 
 use Rattle.tam_word.specs.Lists.{below, any_of, all_of, first_of, has, beyond, where_so}
 use Rattle.tam_graph.specs.declared.kind.Kind.{Kind}
 use Rattle.tam_graph.specs.declared.kind.Kind.TheVariants.{Param, Const, Op as Operate, Seq, Call, Arg, Ret, Give, Alloc, Fetch, Store, Cond, Switch, Merge, Enter, Leave}
+use Rattle.tam_graph.specs.declared.check_cause.CheckCause.{CheckCause}
+use Rattle.tam_graph.specs.declared.check_cause.CheckCause.TheVariants.{WrongBlock, PlaceTwice, PlaceRange, PlaceMissing, DepthMismatch, MainType, Cycle}
 use Rattle.tam_graph.specs.Graphs.{Code, Graph, code_of, kind_at, block_at, depth_at, node_numbers, nodes_in, operands_of, is_split, callee_of, owner_of, is_param, is_ret, is_merge, is_enter, is_leave, is_arg, number_of, params_of, results_of}
 use Rattle.tam_graph.specs.Edges.{Edges, reaches_itself}
 use Rattle.tam_graph.specs.Written.{named_by, IsWritten}
-
--- why a graph isn't accepted
-pub data Cause : Type 0 where
-  No_main Wrong_block Place_twice Place_range Place_missing Depth_mismatch Main_type Cycle : Cause
 
 -- ---- blocks
 
@@ -156,16 +154,16 @@ is_cycle c x = has (on_cycle c (block_at c x)) x
 -- ---- faults
 
 -- the faults of a node, in order
-abbrev pub faults_at : Graph → ℕ → ℕ → List Cause
+abbrev pub faults_at : Graph → ℕ → ℕ → List CheckCause
 faults_at g n x =
     let c = code_of g n in
     let k = kind_at c x in
-    where_so (is_wrong_block c x) Wrong_block ++ (where_so (is_place_twice c x) Place_twice ++ (where_so (is_place_range g c x k) Place_range
-    ++ (where_so (is_place_missing g c x k) Place_missing ++ (where_so (not (has_right_depth g c x k)) Depth_mismatch
-    ++ (where_so ((n == g.main) && is_main_type c x k) Main_type ++ where_so (is_cycle c x) Cycle)))))
+    where_so (is_wrong_block c x) WrongBlock ++ (where_so (is_place_twice c x) PlaceTwice ++ (where_so (is_place_range g c x k) PlaceRange
+    ++ (where_so (is_place_missing g c x k) PlaceMissing ++ (where_so (not (has_right_depth g c x k)) DepthMismatch
+    ++ (where_so ((n == g.main) && is_main_type c x k) MainType ++ where_so (is_cycle c x) Cycle)))))
 
 -- the code, the node and the cause of each fault of a node, in file order
-abbrev pub faults_of : Graph → List (ℕ × ℕ × Cause)
+abbrev pub faults_of : Graph → List (ℕ × ℕ × CheckCause)
 faults_of g = flat_map (λ n. flat_map (λ x. map (λ f. (n, x, f)) (faults_at g n x)) (node_numbers (code_of g n))) (below (length g.codes))
 
 -- a graph that some text within the limits has, without a fault

@@ -5,7 +5,8 @@ use Rattle.tam_graph.specs.declared.kind.Kind.{Kind}
 use Rattle.tam_graph.specs.declared.kind.Kind.TheVariants.{Param, Const, Op as Operate, Call, Give, Alloc, Fetch}
 use Rattle.tam_word.specs.Lists.{all_of}
 use Rattle.tam_graph.specs.Graphs.{Graph, main_name, node_numbers, kind_at, blocks_of}
-use Rattle.tam_graph.specs.Accepted.{faults_of, Place_twice, Place_range, Place_missing, Depth_mismatch, Main_type, Cycle}
+use Rattle.tam_graph.specs.declared.check_cause.CheckCause.TheVariants.{PlaceTwice as Place_twice, PlaceRange as Place_range, PlaceMissing as Place_missing, DepthMismatch as Depth_mismatch, MainType as Main_type, Cycle}
+use Rattle.tam_graph.specs.Accepted.{faults_of}
 use Rattle.tam_graph.specs.Written.{in_file_order, in_opening_order, is_line, depth_of_block}
 use Rattle.tam_graph.specs.ExampleGraphs.{plain, deep, sum_graph, back_graph, loop_graph, loop_main, cell_graph, twice_graph, calls_itself, nothing_graph, seq_graph}
 

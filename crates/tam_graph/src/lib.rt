@@ -5,6 +5,7 @@
 #![tactic(auto)]
 
 mod accepted;
+mod check_cause;
 mod code;
 mod graph;
 mod index;
@@ -14,6 +15,7 @@ mod node;
 mod place;
 
 pub use accepted::Accepted;
+pub use check_cause::CheckCause;
 pub use code::Code;
 pub use graph::Graph;
 pub use kind::Kind;

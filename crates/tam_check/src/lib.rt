@@ -1,0 +1,11 @@
+//! The checker of graphs: a graph that breaks no rule is accepted, any other is refused at its first fault.
+//!
+//! Over the crate of graphs. What is run, split or emitted was accepted here.
+//! Read `specs/FirstFault.antt` first: it says what is told of a graph. Then `src/check.rt`.
+#![tactic(auto)]
+
+mod interface;
+mod nodes;
+mod scans;
+
+pub use tam_graph::{Accepted, CheckCause};

@@ -58,6 +58,22 @@ all-later test x xs e = rw (all_of, e) refl
 all-here : {X : Type 0} (test : X → Bool) (x : X) (xs : List X) → test x ≡ false → all_of test (x ∷ xs) ≡ false
 all-here test x xs e = rw (all_of, e) refl
 
+-- some element of one
+pub any-of_one : {X : Type 0} (test : X → Bool) (x : X) → any_of test (x ∷ []) ≡ test x
+any-of_one test x = go (test x) refl
+  where
+    go : (b : Bool) → test x ≡ b → any_of test (x ∷ []) ≡ test x
+    go true e = any-here test x [] e ∙ sym e
+    go false e = any-later test x [] e ∙ sym e
+
+-- each element of one
+pub all-of_one : {X : Type 0} (test : X → Bool) (x : X) → all_of test (x ∷ []) ≡ test x
+all-of_one test x = go (test x) refl
+  where
+    go : (b : Bool) → test x ≡ b → all_of test (x ∷ []) ≡ test x
+    go true e = all-later test x [] e ∙ sym e
+    go false e = all-here test x [] e ∙ sym e
+
 -- ---- tests that say the same
 
 -- some element passes the one where some passes the other

@@ -4,8 +4,11 @@
 //! Read `specs/FirstFault.antt` first: it says what is told of a graph. Then `src/check.rt`.
 #![tactic(auto)]
 
+mod blocks;
+mod depths;
 mod interface;
 mod nodes;
+mod places;
 mod scans;
 
 pub use tam_graph::{Accepted, CheckCause};

@@ -1,9 +1,9 @@
 -- What the rules ask of interfaces, as tests of the places that nodes have.
-use Rattle.std.proofs.Common.{◌≡◌, ℕ, Bool, true, false, not, ◌&&◌, ◌||◌, ◌==◌, Option, Some, None, List, [], ◌∷◌, refl, sym, ap, ◌∙◌}
+use Rattle.std.proofs.Common.{◌≡◌, ℕ, Bool, true, false, not, ◌&&◌, ◌||◌, ◌==◌, Option, Some, None, List, [], ◌∷◌, refl, ap, ◌∙◌}
 use Rattle.tam_word.specs.Lists.{below, any_of, all_of}
 use Rattle.tam_graph.specs.declared.kind.Kind.{Kind}
-use Rattle.tam_graph.specs.declared.kind.Kind.TheVariants.{Param, Const, Op as Operate, Seq, Call, Arg, Ret, Give, Alloc, Fetch, Store, Cond, Switch, Merge, Enter, Leave}
-use Rattle.tam_graph.specs.Graphs.{Code, kind_at, block_at, depth_at, node_numbers, nodes_in, is_param, is_give, is_merge, is_enter, is_leave}
+use Rattle.tam_graph.specs.declared.kind.Kind.TheVariants.{Param, Arg, Ret, Give, Switch, Merge, Enter, Leave}
+use Rattle.tam_graph.specs.Graphs.{Code, kind_at, block_at, depth_at, node_numbers, is_param, is_give, is_merge, is_enter, is_leave}
 use Rattle.tam_graph.specs.Accepted.{same_place, is_place_twice, has_node_in, all_depths, gives_depth, enters_depth}
 use Rattle.tam_check.specs.declared.interface.Interface.{Interface}
 use Rattle.tam_check.specs.declared.interface.Interface.TheVariants.{Params, Results, Merges, Ins, Outs}

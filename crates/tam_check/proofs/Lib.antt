@@ -1,2 +1,8 @@
 mod Scanning
 mod InterfaceTests
+mod BlockEdges
+mod Marking
+mod Rising
+mod CycleTable
+mod Firsts
+mod CycleLast

@@ -20,13 +20,25 @@ pub fn has_right_depth(graph: &Graph, code: &Code, x: u32, kind: Kind) -> bool
         Kind::Const { .. } | Kind::Call { .. } => depth == 0,
         Kind::Op { a, b, .. } => depth == 0 && depth_at(code, a) == 0 && depth_at(code, b) == 0,
         Kind::Seq { a, .. } => depth == depth_at(code, a),
-        Kind::Arg { call, place, a } => params_agree(graph, callee_of(code, call), place, depth_at(code, a)),
+        Kind::Arg { call, place, a } => params_agree(
+            graph,
+            callee_of(code, call),
+            place,
+            depth_at(code, a),
+        ),
         Kind::Ret { call, place } => results_agree(graph, callee_of(code, call), place, depth),
         Kind::Alloc { len } => depth_at(code, len) == 0 && 0 < depth && depth < 4,
-        Kind::Fetch { array, index } => depth_at(code, index) == 0 && is_one_deeper(depth_at(code, array), depth),
-        Kind::Store { array, index, a } => depth_at(code, index) == 0 && is_one_deeper(depth_at(code, array), depth_at(code, a)),
+        Kind::Fetch { array, index } => depth_at(code, index) == 0
+            && is_one_deeper(depth_at(code, array), depth),
+        Kind::Store { array, index, a } => depth_at(code, index) == 0
+            && is_one_deeper(depth_at(code, array), depth_at(code, a)),
         Kind::Cond { test, .. } => depth_at(code, test) == 0,
-        Kind::Switch { cond, place, a } => ins_agree(code, place, depth_at(code, a), kind_at(code, cond)),
+        Kind::Switch { cond, place, a } => ins_agree(
+            code,
+            place,
+            depth_at(code, a),
+            kind_at(code, cond),
+        ),
         Kind::Leave { place, a } => merges_agree(code, x, place, depth_at(code, a)),
         Kind::Param { .. } | Kind::Give { .. } | Kind::Merge { .. } | Kind::Enter { .. } => true,
     }
@@ -68,7 +80,8 @@ fn ins_agree(code: &Code, place: u32, depth: u8, cond: Kind) -> bool
     ensures value { result ≡ both_enter_depth code.now place depth cond }
 {
     match cond {
-        Kind::Cond { yes, no, .. } => branch_agrees(code, place, depth, yes) && branch_agrees(code, place, depth, no),
+        Kind::Cond { yes, no, .. } => branch_agrees(code, place, depth, yes)
+            && branch_agrees(code, place, depth, no),
         _ => true,
     }
 }

@@ -44,12 +44,18 @@ impl Interface {
         match self {
             Interface::Params => matches!(kind, Kind::Param { place: at } if at == place),
             Interface::Results => matches!(kind, Kind::Give { place: at, .. } if at == place),
-            Interface::Args { call } => matches!(kind, Kind::Arg { call: of, place: at, .. } if of == call && at == place),
-            Interface::Rets { call } => matches!(kind, Kind::Ret { call: of, place: at } if of == call && at == place),
-            Interface::Switches { cond } => matches!(kind, Kind::Switch { cond: of, place: at, .. } if of == cond && at == place),
-            Interface::Merges { cond } => matches!(kind, Kind::Merge { cond: of, place: at } if of == cond && at == place),
-            Interface::Ins { block: own } => block == own && matches!(kind, Kind::Enter { place: at } if at == place),
-            Interface::Outs { block: own } => block == own && matches!(kind, Kind::Leave { place: at, .. } if at == place),
+            Interface::Args { call } =>
+                matches!(kind, Kind::Arg { call: of, place: at, .. } if of == call && at == place),
+            Interface::Rets { call } =>
+                matches!(kind, Kind::Ret { call: of, place: at } if of == call && at == place),
+            Interface::Switches { cond } =>
+                matches!(kind, Kind::Switch { cond: of, place: at, .. } if of == cond && at == place),
+            Interface::Merges { cond } =>
+                matches!(kind, Kind::Merge { cond: of, place: at } if of == cond && at == place),
+            Interface::Ins { block: own } => block == own
+                && matches!(kind, Kind::Enter { place: at } if at == place),
+            Interface::Outs { block: own } => block == own
+                && matches!(kind, Kind::Leave { place: at, .. } if at == place),
         }
     }
 }

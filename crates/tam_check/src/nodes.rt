@@ -1,5 +1,5 @@
 // What a code has by numbers, also by numbers that it lacks.
-ghost use Rattle.std.specs.Prelude.{◌≡◌, ◌≤◌, length, option_to_list};
+ghost use Rattle.std.specs.Prelude.{ℕ, ◌≡◌, ◌<◌, ◌≤◌, length, option_to_list};
 ghost use Rattle.tam_graph.specs.Graphs.{kind_at, block_at, depth_at, callee_of, owner_of, code_of, params_of, results_of};
 
 use tam_graph::{Code, Graph, Kind};
@@ -9,6 +9,14 @@ pub fn node_count(code: &Code) -> u32
     ensures few { result ≤ 1024 }
 {
     code.nodes().len() as u32
+}
+
+/// How many blocks a code has: each node stands in one of them.
+pub fn block_count(code: &Code) -> usize
+    ensures value { result ≡ length code.now.owners }
+    ensures within { (x : ℕ) → x < length code.now.nodes → block_at code.now x < result }
+{
+    code.owners().len()
 }
 
 pub fn kind_at(code: &Code, x: u32) -> Kind
@@ -62,12 +70,20 @@ pub fn owner_of(code: &Code, block: u32) -> Option<u32>
 pub fn params_of(graph: &Graph, code: u32) -> u32
     ensures value { result ≡ params_of (code_of graph.now code) }
 {
-    if code < graph.codes() { graph.code(code).params() } else { 0 }
+    if code < graph.codes() {
+        graph.code(code).params()
+    } else {
+        0
+    }
 }
 
 /// How many results a code has.
 pub fn results_of(graph: &Graph, code: u32) -> u32
     ensures value { result ≡ results_of (code_of graph.now code) }
 {
-    if code < graph.codes() { graph.code(code).results() } else { 0 }
+    if code < graph.codes() {
+        graph.code(code).results()
+    } else {
+        0
+    }
 }

@@ -105,7 +105,11 @@ fn lacks_in_branches(code: &Code, cond: u32, yes: u32, no: u32, kind: Kind) -> b
     ensures value { result ≡ lacks_in_branches code.now cond yes no kind }
 {
     match kind {
-        Kind::Switch { cond: of, place, .. } => of == cond && lacks_in(code, yes, no, place),
+        Kind::Switch {
+            cond: of,
+            place,
+            ..
+        } => of == cond && lacks_in(code, yes, no, place),
         Kind::Merge { cond: of, place } => of == cond && lacks_out(code, yes, no, place),
         _ => false,
     }
@@ -115,12 +119,14 @@ fn lacks_in_branches(code: &Code, cond: u32, yes: u32, no: u32, kind: Kind) -> b
 fn lacks_in(code: &Code, yes: u32, no: u32, place: u32) -> bool
     ensures value { result ≡ (not (has_node_in code.now yes (is_enter place)) || not (has_node_in code.now no (is_enter place))) }
 {
-    !has_place(code, Interface::Ins { block: yes }, place) || !has_place(code, Interface::Ins { block: no }, place)
+    !has_place(code, Interface::Ins { block: yes }, place)
+        || !has_place(code, Interface::Ins { block: no }, place)
 }
 
 // Whether one of the branches lacks an `out` for this place.
 fn lacks_out(code: &Code, yes: u32, no: u32, place: u32) -> bool
     ensures value { result ≡ (not (has_node_in code.now yes (is_leave place)) || not (has_node_in code.now no (is_leave place))) }
 {
-    !has_place(code, Interface::Outs { block: yes }, place) || !has_place(code, Interface::Outs { block: no }, place)
+    !has_place(code, Interface::Outs { block: yes }, place)
+        || !has_place(code, Interface::Outs { block: no }, place)
 }

@@ -1,4 +1,4 @@
-use Rattle.std.proofs.Common.{◌≡◌, ◌∙◌, sym, ap, not, refl}
+use Rattle.std.proofs.Common.{◌∙◌, sym, ap, not, refl}
 use Rattle.tam_check.proofs.InterfaceTests.{enters-place}
 use Rattle.tam_check.proofs.places.lacks_in.Goals as goal
 
@@ -10,5 +10,5 @@ returns-then-not-has_place c = record {
 pub returns-else-not-has_place : goal.returns-else-not-has_place
 returns-else-not-has_place c = record {
   value = rw (enters-place c.args.code.now c.args.yes c.args.place, ← c.has_place.ensures.value, c.if-not-has_place.false)
-  (ap not (c.has_place-else-not-has_place.ensures.value ∙ sym (enters-place c.args.code.now c.args.no c.args.place)));
+      (ap not (c.has_place-else-not-has_place.ensures.value ∙ sym (enters-place c.args.code.now c.args.no c.args.place)));
 }

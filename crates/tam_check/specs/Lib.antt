@@ -1,3 +1,4 @@
 pub mod Interfaces
 pub mod Sources
 pub mod FirstFault
+pub mod FirstFaultExamples

@@ -11,7 +11,7 @@ use tam_graph::{Code, Graph, Kind};
 
 /// Whether a node and what it names have the depths that its line asks for.
 ///
-/// docs/FORMATS.md, "Which graphs are accepted".
+/// docs/FORMATS.md, "What is accepted".
 pub fn has_right_depth(graph: &Graph, code: &Code, x: u32, kind: Kind) -> bool
     ensures value { result ≡ has_right_depth graph.now code.now x kind }
 {
@@ -46,7 +46,7 @@ pub fn has_right_depth(graph: &Graph, code: &Code, x: u32, kind: Kind) -> bool
 
 /// Whether a param or a result is an array, as one of `main` can't be.
 ///
-/// docs/FORMATS.md, "Which graphs are accepted".
+/// docs/FORMATS.md, "What is accepted".
 pub fn is_main_type(code: &Code, x: u32, kind: Kind) -> bool
     ensures value { result ≡ is_main_type code.now x kind }
 {

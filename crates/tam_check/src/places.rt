@@ -11,7 +11,7 @@ use tam_graph::{Code, Graph, Kind};
 
 /// Whether an earlier node has the same place of the same interface.
 ///
-/// docs/FORMATS.md, "Which graphs are accepted".
+/// docs/FORMATS.md, "What is accepted".
 pub fn is_place_twice(code: &Code, x: u32) -> bool
     ensures value { result ≡ is_place_twice code.now x }
 {
@@ -23,7 +23,7 @@ pub fn is_place_twice(code: &Code, x: u32) -> bool
 
 /// Whether a place isn't below the size of the interface.
 ///
-/// docs/FORMATS.md, "Which graphs are accepted".
+/// docs/FORMATS.md, "What is accepted".
 pub fn is_place_range(graph: &Graph, code: &Code, x: u32, kind: Kind) -> bool
     ensures value { result ≡ is_place_range graph.now code.now x kind }
 {
@@ -48,7 +48,7 @@ pub fn is_place_range(graph: &Graph, code: &Code, x: u32, kind: Kind) -> bool
 
 /// Whether the interface of a call or of a cond lacks a place that the other side has.
 ///
-/// docs/FORMATS.md, "Which graphs are accepted".
+/// docs/FORMATS.md, "What is accepted".
 pub fn is_place_missing(graph: &Graph, code: &Code, x: u32, kind: Kind) -> bool
     ensures value { result ≡ is_place_missing graph.now code.now x kind }
 {

@@ -25,7 +25,7 @@ branching nodes = record { codes = record { name = main_name; nodes = plain 0 (C
 abbrev pub calling : List Kind → List (ℕ × Kind) → Graph
 calling caller callee = record {
   codes = record { name = main_name; nodes = map (plain 0) caller; owners = None ∷ [] }
-    ∷ record { name = codes "f"; nodes = map (λ k. deep k.0 k.1) callee; owners = None ∷ [] } ∷ [];
+      ∷ record { name = codes "f"; nodes = map (λ k. deep k.0 k.1) callee; owners = None ∷ [] } ∷ [];
   main = 0;
 }
 

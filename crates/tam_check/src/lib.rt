@@ -16,6 +16,8 @@ mod ranks;
 mod reached;
 mod scans;
 mod sources;
+#[cfg(test)]
+mod tests;
 
 pub use checker::{CheckError, check};
 pub use tam_graph::{Accepted, CheckCause};

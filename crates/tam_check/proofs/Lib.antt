@@ -6,3 +6,5 @@ mod Rising
 mod CycleTable
 mod Firsts
 mod CycleLast
+mod Keys
+mod Tabling

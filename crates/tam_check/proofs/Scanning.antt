@@ -1,5 +1,5 @@
 -- Tests of the numbers below n, one by one; and of lists, by tests that say the same or over what is left of them.
-use Rattle.std.proofs.Common.{◌≡◌, ℕ, ◌+◌, ◌<◌, Bool, true, false, not, ◌&&◌, ◌||◌, List, [], ◌∷◌, filter, refl, sym, ap, ◌∙◌, arith, inl, inr, true≢false}
+use Rattle.std.proofs.Common.{◌≡◌, ℕ, ◌+◌, ◌<◌, Bool, true, false, not, ◌&&◌, ◌||◌, List, [], ◌∷◌, ◌++◌, filter, refl, sym, ap, ◌∙◌, arith, inl, inr, true≢false}
 use Rattle.tam_word.specs.Lists.{below, any_of, all_of}
 use Rattle.tam_word.proofs.Members.{In, in-below, below-in, in-any, any-in, all-in, in-all}
 use Rattle.tam_word.proofs.Each.{last-or_before}
@@ -73,6 +73,26 @@ all-of_one test x = go (test x) refl
     go : (b : Bool) → test x ≡ b → all_of test (x ∷ []) ≡ test x
     go true e = all-later test x [] e ∙ sym e
     go false e = all-here test x [] e ∙ sym e
+
+-- some element of both lists
+pub any-append : {X : Type 0} (test : X → Bool) (xs ys : List X) → any_of test (xs ++ ys) ≡ (any_of test xs || any_of test ys)
+any-append test [] ys = refl
+any-append {X} test (x ∷ xs) ys = go (test x) refl (any-append test xs ys)
+  where
+    go : (b : Bool) → test x ≡ b → any_of test (xs ++ ys) ≡ (any_of test xs || any_of test ys)
+        → any_of test ((x ∷ xs) ++ ys) ≡ (any_of test (x ∷ xs) || any_of test ys)
+    go true e i = any-here test x (xs ++ ys) e ∙ ap (λ t. t || any_of test ys) (sym (any-here test x xs e))
+    go false e i = any-later test x (xs ++ ys) e ∙ (i ∙ ap (λ t. t || any_of test ys) (sym (any-later test x xs e)))
+
+-- each element of both lists
+pub all-append_test : {X : Type 0} (test : X → Bool) (xs ys : List X) → all_of test (xs ++ ys) ≡ (all_of test xs && all_of test ys)
+all-append_test test [] ys = refl
+all-append_test {X} test (x ∷ xs) ys = go (test x) refl (all-append_test test xs ys)
+  where
+    go : (b : Bool) → test x ≡ b → all_of test (xs ++ ys) ≡ (all_of test xs && all_of test ys)
+        → all_of test ((x ∷ xs) ++ ys) ≡ (all_of test (x ∷ xs) && all_of test ys)
+    go true e i = all-later test x (xs ++ ys) e ∙ (i ∙ ap (λ t. t && all_of test ys) (sym (all-later test x xs e)))
+    go false e i = all-here test x (xs ++ ys) e ∙ ap (λ t. t && all_of test ys) (sym (all-here test x xs e))
 
 -- ---- tests that say the same
 

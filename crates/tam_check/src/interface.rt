@@ -1,6 +1,7 @@
 // Interfaces: the nodes that hand values over at the border of a code, a call, a cond or a branch, each at a place.
-ghost use Rattle.std.specs.Prelude.{◌≡◌};
+ghost use Rattle.std.specs.Prelude.{◌≡◌, ◌<◌, ◌*◌, ◌^◌};
 ghost use Rattle.tam_check.specs.Interfaces.{stands, interface_of};
+ghost use Rattle.tam_check.specs.Tables.{number};
 
 use tam_graph::Kind;
 
@@ -35,6 +36,24 @@ impl Interface {
             Kind::Leave { place, .. } => Some((Interface::Outs { block }, place)),
             _ => None,
         }
+    }
+
+    /// Its number: eight interfaces stand beside each other for each node and each block.
+    pub fn number(self) -> usize
+        ensures value { result ≡ number self }
+        ensures in_range { result < 8 * 2 ^ 32 }
+    {
+        let (owner, sort) = match self {
+            Interface::Params => (0, 0),
+            Interface::Results => (0, 1),
+            Interface::Args { call } => (call, 2),
+            Interface::Rets { call } => (call, 3),
+            Interface::Switches { cond } => (cond, 4),
+            Interface::Merges { cond } => (cond, 5),
+            Interface::Ins { block } => (block, 6),
+            Interface::Outs { block } => (block, 7),
+        };
+        8 * owner as usize + sort
     }
 
     /// Whether a node that stands in this block has this place of the interface.

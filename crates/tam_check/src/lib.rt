@@ -15,7 +15,9 @@ mod places;
 mod ranks;
 mod reached;
 mod scans;
+mod seen;
 mod sources;
+mod table;
 #[cfg(test)]
 mod tests;
 

@@ -60,8 +60,8 @@ fn stands_at(code: &Code, interface: Interface, place: u32, x: u32) -> bool
     interface.has(place, block_at(code, x), kind_at(code, x))
 }
 
-// The depth of the value that a node hands over.
-fn handed_depth(code: &Code, x: u32) -> u8
+/// The depth of the value that a node hands over.
+pub fn handed_depth(code: &Code, x: u32) -> u8
     ensures value { result ≡ handed_depth code.now x }
 {
     match kind_at(code, x) {

@@ -1,0 +1,84 @@
+-- Tables of a code: what its nodes hand over at each place of each interface, and the sizes of the interfaces.
+use Rattle.std.specs.Prelude.{ℕ, ◌≡◌, ◌<◌, ◌≤◌, ◌+◌, ◌*◌, Bool, true, false, ◌&&◌, ◌==◌, nat_lt, List, Option, Some, None, slice_get, slice_set, length}
+use Rattle.tam_word.specs.Lists.{below, all_of}
+use Rattle.tam_graph.specs.Graphs.{Code, kind_at, block_at}
+use Rattle.tam_check.specs.declared.interface.Interface.{Interface}
+use Rattle.tam_check.specs.declared.interface.Interface.TheVariants.{Params, Results, Args, Rets, Switches, Merges, Ins, Outs}
+use Rattle.tam_check.specs.declared.seen.Seen.{Seen}
+use Rattle.tam_check.specs.declared.seen.Seen.TheVariants.{Nothing, Depth, Depths}
+use Rattle.tam_check.specs.Interfaces.{has_place_below, has_place, agrees, all_agree}
+
+-- ---- one place
+
+-- a node has the place
+abbrev pub is_something : Seen → Bool
+is_something Nothing = false
+is_something (Depth d) = true
+is_something Depths = true
+
+-- no other depth than this is handed over
+abbrev pub is_only : Seen → ℕ → Bool
+is_only Nothing d = true
+is_only (Depth e) d = e == d
+is_only Depths d = false
+
+-- with one more node
+abbrev pub with_depth : Seen → ℕ → Seen
+with_depth Nothing d = Depth d
+with_depth (Depth e) d = elim (e == d) [ true ↦ Depth e | false ↦ Depths ]
+with_depth Depths d = Depths
+
+-- ---- the entries of a table
+
+-- which sort of interface it is
+abbrev pub sort_of : Interface → ℕ
+sort_of Params = 0
+sort_of Results = 1
+sort_of (Args f) = 2
+sort_of (Rets f) = 3
+sort_of (Switches d) = 4
+sort_of (Merges d) = 5
+sort_of (Ins b) = 6
+sort_of (Outs b) = 7
+
+-- which of its sort
+abbrev pub owner_number : Interface → ℕ
+owner_number Params = 0
+owner_number Results = 0
+owner_number (Args f) = f
+owner_number (Rets f) = f
+owner_number (Switches d) = d
+owner_number (Merges d) = d
+owner_number (Ins b) = b
+owner_number (Outs b) = b
+
+-- the number of an interface
+abbrev pub number : Interface → ℕ
+number i = 8 * owner_number i + sort_of i
+
+-- where the table tells of a place below 64
+abbrev pub key : Interface → ℕ → ℕ
+key i k = 64 * number i + k
+
+-- an entry that is there
+abbrev pub or_nothing : Option Seen → Seen
+or_nothing None = Nothing
+or_nothing (Some s) = s
+
+-- what the table tells of a place
+abbrev pub entry : List Seen → Interface → ℕ → Seen
+entry table i k = elim (nat_lt k 64) [ true ↦ or_nothing (slice_get table (key i k)) | false ↦ Nothing ]
+
+-- the table with what it tells of a place changed, where it tells of it
+abbrev pub replaced : List Seen → ℕ → Interface → ℕ → Seen → List Seen
+replaced table interfaces i k s = elim (nat_lt k 64 && nat_lt (number i) interfaces) [ true ↦ slice_set table (key i k) s | false ↦ table ]
+
+-- what is told of a place is so of the first n nodes
+pub record Shows (c : Code) (n : ℕ) (i : Interface) (k : ℕ) (s : Seen) : Type 0 where
+  pub place : is_something s ≡ has_place_below c i k n
+  pub depths : (d : ℕ) → is_only s d ≡ all_of (agrees c i k d) (below n)
+
+-- the table tells of the first n nodes at each place of the first interfaces
+pub record IsTable (c : Code) (n interfaces : ℕ) (table : List Seen) : Type 0 where
+  pub len : length table ≡ 64 * interfaces
+  pub each : (i : Interface) (k : ℕ) → k < 64 → number i < interfaces → Shows c n i k (entry table i k)

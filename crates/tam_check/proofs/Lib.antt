@@ -8,3 +8,4 @@ mod Firsts
 mod CycleLast
 mod Keys
 mod Tabling
+mod FewBlocks

@@ -6,11 +6,7 @@ use Rattle.tam_graph.specs.declared.kind.Kind.TheVariants.{Param, Const, Op as O
 use Rattle.tam_check.specs.declared.interface.Interface.{Interface}
 use Rattle.tam_check.specs.declared.interface.Interface.TheVariants.{Params, Results, Args, Rets, Switches, Merges, Ins, Outs}
 use Rattle.tam_check.specs.Interfaces.{stands, interface_of}
-use Rattle.tam_check.specs.Tables.{sort_of, owner_number, number, key}
-
--- the two interfaces are one
-abbrev pub same_side : Interface → Interface → Bool
-same_side j i = (sort_of j == sort_of i) && (owner_number j == owner_number i)
+use Rattle.tam_check.specs.Tables.{sort_of, owner_number, number, key, same_side}
 
 -- a node of one interface has a place of another where they are one and the places are
 abbrev pub own_stands : Interface → ℕ → Option (Interface × ℕ) → Bool
@@ -84,3 +80,18 @@ same-number j i h =
     let sorts = number-eq (sort_of j) (sort_of i) t.0 in
     let owners = number-eq (owner_number j) (owner_number i) t.1 in
     omega (arith, sorts, owners)
+
+-- two interfaces are one where their numbers are
+pub same-side : (j i : Interface) → same_side j i ≡ (number j == number i)
+same-side j i = go (number j == number i) refl
+  where
+    go : (b : Bool) → (number j == number i) ≡ b → same_side j i ≡ (number j == number i)
+    go true e =
+        let s = parts (owner_number j) (owner_number i) (sort_of j) (sort_of i) 0 0 (sort-below j) (sort-below i) (omega arith) (omega arith)
+        (let f = number-eq (number j) (number i) e in omega (arith, f)) in
+        true-both (sort_of j == sort_of i) (owner_number j == owner_number i) (eq-number (sort_of j) (sort_of i) s.0) (eq-number (owner_number j) (owner_number i) s.1) ∙ sym e
+    go false e = differs (same_side j i) refl ∙ sym e
+      where
+        differs : (b : Bool) → same_side j i ≡ b → same_side j i ≡ false
+        differs false h = h
+        differs true h = absurd (number-differs (number j) (number i) e (same-number j i h))

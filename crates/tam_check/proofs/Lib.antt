@@ -9,3 +9,4 @@ mod CycleLast
 mod Keys
 mod Tabling
 mod FewBlocks
+mod Sizing

@@ -8,9 +8,9 @@ use Rattle.tam_check.specs.declared.interface.Interface.{Interface}
 use Rattle.tam_check.specs.declared.seen.Seen.{Seen}
 use Rattle.tam_check.specs.declared.seen.Seen.TheVariants.{Nothing, Depth, Depths}
 use Rattle.tam_check.specs.Interfaces.{interface_of, stands_at, handed_depth, agrees}
-use Rattle.tam_check.specs.Tables.{is_something, is_only, with_depth, number, key, or_nothing, entry, replaced, Shows, IsTable}
+use Rattle.tam_check.specs.Tables.{is_something, is_only, with_depth, number, key, or_nothing, entry, replaced, same_side, Shows, IsTable}
 use Rattle.tam_check.proofs.Scanning.{any-of_one, all-of_one, any-append, all-append_test}
-use Rattle.tam_check.proofs.Keys.{same_side, own_stands, stands-own, same-key, same-number}
+use Rattle.tam_check.proofs.Keys.{own_stands, stands-own, same-key, same-number}
 
 -- ---- one place
 

@@ -1,12 +1,12 @@
 -- Tables of a code: what its nodes hand over at each place of each interface, and the sizes of the interfaces.
-use Rattle.std.specs.Prelude.{ℕ, ◌≡◌, ◌<◌, ◌≤◌, ◌+◌, ◌*◌, Bool, true, false, ◌&&◌, ◌==◌, nat_lt, List, Option, Some, None, slice_get, slice_set, length}
+use Rattle.std.specs.Prelude.{ℕ, ◌≡◌, ◌<◌, ◌≤◌, ◌+◌, ◌*◌, Bool, true, false, ◌&&◌, ◌==◌, nat_lt, List, Option, Some, None, slice_get, slice_index_or, slice_set, length, count_by}
 use Rattle.tam_word.specs.Lists.{below, all_of}
 use Rattle.tam_graph.specs.Graphs.{Code, kind_at, block_at}
 use Rattle.tam_check.specs.declared.interface.Interface.{Interface}
 use Rattle.tam_check.specs.declared.interface.Interface.TheVariants.{Params, Results, Args, Rets, Switches, Merges, Ins, Outs}
 use Rattle.tam_check.specs.declared.seen.Seen.{Seen}
 use Rattle.tam_check.specs.declared.seen.Seen.TheVariants.{Nothing, Depth, Depths}
-use Rattle.tam_check.specs.Interfaces.{has_place_below, has_place, agrees, all_agree}
+use Rattle.tam_check.specs.Interfaces.{interface_of, has_place_below, has_place, agrees, all_agree}
 
 -- ---- one place
 
@@ -56,6 +56,10 @@ owner_number (Outs b) = b
 abbrev pub number : Interface → ℕ
 number i = 8 * owner_number i + sort_of i
 
+-- the two interfaces are one
+abbrev pub same_side : Interface → Interface → Bool
+same_side j i = (sort_of j == sort_of i) && (owner_number j == owner_number i)
+
 -- where the table tells of a place below 64
 abbrev pub key : Interface → ℕ → ℕ
 key i k = 64 * number i + k
@@ -82,3 +86,27 @@ pub record Shows (c : Code) (n : ℕ) (i : Interface) (k : ℕ) (s : Seen) : Typ
 pub record IsTable (c : Code) (n interfaces : ℕ) (table : List Seen) : Type 0 where
   pub len : length table ≡ 64 * interfaces
   pub each : (i : Interface) (k : ℕ) → k < 64 → number i < interfaces → Shows c n i k (entry table i k)
+
+-- ---- sizes
+
+-- a node of the one interface belongs to the other
+abbrev pub belongs_to : Interface → Option (Interface × ℕ) → Bool
+belongs_to i None = false
+belongs_to i (Some q) = same_side q.0 i
+
+-- node x belongs to the interface
+abbrev pub belongs_at : Code → Interface → ℕ → Bool
+belongs_at c i x = belongs_to i (interface_of (block_at c x) (kind_at c x))
+
+-- how many of the first n nodes belong to the interface
+abbrev pub size_below : Code → Interface → ℕ → ℕ
+size_below c i n = count_by (belongs_at c i) (below n)
+
+-- the size of an interface, by its number
+abbrev pub size_in : List ℕ → ℕ → ℕ
+size_in sizes m = slice_index_or sizes m 0
+
+-- the sizes of the first interfaces, of the first n nodes
+pub record AreSizes (c : Code) (n interfaces : ℕ) (sizes : List ℕ) : Type 0 where
+  pub len : length sizes ≡ interfaces
+  pub each : (i : Interface) → number i < interfaces → size_in sizes (number i) ≡ size_below c i n

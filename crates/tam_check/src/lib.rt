@@ -16,6 +16,7 @@ mod ranks;
 mod reached;
 mod scans;
 mod seen;
+mod sizes;
 mod sources;
 mod table;
 #[cfg(test)]

@@ -15,6 +15,7 @@ pub fn node_count(code: &Code) -> u32
 pub fn block_count(code: &Code) -> usize
     ensures value { result ≡ length code.now.owners }
     ensures within { (x : ℕ) → x < length code.now.nodes → block_at code.now x < result }
+    ensures few { result ≤ 2049 }
 {
     code.owners().len()
 }

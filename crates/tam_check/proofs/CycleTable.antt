@@ -82,12 +82,12 @@ pub record AreCyclesBelow (c : Code) (n : ℕ) (cycles : List (Option ℕ)) : Ty
   pub each : (b : ℕ) → b < n → one_or_none (slice_get cycles b) ≡ on_cycle c b
 
 -- what is put at the end
-get-last : {X : Type 0} (xs : List X) (x : X) → slice_get (xs ++ x ∷ []) (length xs) ≡ Some x
+pub get-last : {X : Type 0} (xs : List X) (x : X) → slice_get (xs ++ x ∷ []) (length xs) ≡ Some x
 get-last [] x = refl
 get-last (y ∷ xs) x = get-last xs x
 
 -- what stands before it
-get-before : {X : Type 0} (xs ys : List X) (n : ℕ) → n < length xs → slice_get (xs ++ ys) n ≡ slice_get xs n
+pub get-before : {X : Type 0} (xs ys : List X) (n : ℕ) → n < length xs → slice_get (xs ++ ys) n ≡ slice_get xs n
 get-before [] ys n l = absurd (omega arith)
 get-before (x ∷ xs) ys zero l = refl
 get-before (x ∷ xs) ys (suc n) l = get-before xs ys n (omega arith)

@@ -10,3 +10,5 @@ mod Keys
 mod Tabling
 mod FewBlocks
 mod Sizing
+mod Far
+mod Borders

@@ -1,7 +1,8 @@
 -- Tables of a code: what its nodes hand over at each place of each interface, and the sizes of the interfaces.
-use Rattle.std.specs.Prelude.{ℕ, ◌≡◌, ◌<◌, ◌≤◌, ◌+◌, ◌*◌, Bool, true, false, ◌&&◌, ◌==◌, nat_lt, List, Option, Some, None, slice_get, slice_index_or, slice_set, length, count_by}
+use Rattle.std.specs.Prelude.{ℕ, ◌≡◌, ◌<◌, ◌≤◌, ◌+◌, ◌*◌, Bool, true, false, ◌&&◌, ◌==◌, nat_lt, Vec, List, [], Option, Some, None, slice_get, slice_index_or, slice_set, length, count_by}
+use Rattle.std.specs.Global.{Global}
 use Rattle.tam_word.specs.Lists.{below, all_of}
-use Rattle.tam_graph.specs.Graphs.{Code, kind_at, block_at}
+use Rattle.tam_graph.specs.Graphs.{Code, Graph, code_of, kind_at, block_at, node_numbers}
 use Rattle.tam_check.specs.declared.interface.Interface.{Interface}
 use Rattle.tam_check.specs.declared.interface.Interface.TheVariants.{Params, Results, Args, Rets, Switches, Merges, Ins, Outs}
 use Rattle.tam_check.specs.declared.seen.Seen.{Seen}
@@ -110,3 +111,33 @@ size_in sizes m = slice_index_or sizes m 0
 pub record AreSizes (c : Code) (n interfaces : ℕ) (sizes : List ℕ) : Type 0 where
   pub len : length sizes ≡ interfaces
   pub each : (i : Interface) → number i < interfaces → size_in sizes (number i) ≡ size_below c i n
+
+-- how many nodes belong to the interface
+abbrev pub size_of : Code → Interface → ℕ
+size_of c i = count_by (belongs_at c i) (node_numbers c)
+
+-- the tables tell of each place and each interface of the code
+pub record AreTables (c : Code) (seen : List Seen) (sizes : List ℕ) : Type 0 where
+  pub places : (i : Interface) (k : ℕ) → Shows c (length c.nodes) i k (entry seen i k)
+  pub counts : (i : Interface) → size_in sizes (number i) ≡ size_of c i
+
+-- ---- borders
+
+-- the table tells of each param and each result of the code
+pub record IsBorder (c : Code) (table : List Seen) : Type 0 where
+  pub params : (k : ℕ) → Shows c (length c.nodes) Params k (entry table Params k)
+  pub results : (k : ℕ) → Shows c (length c.nodes) Results k (entry table Results k)
+
+-- a table that is there
+abbrev pub or_no_table : Option (Vec Seen Global) → List Seen
+or_no_table None = []
+or_no_table (Some v) = v.items
+
+-- the table of code n
+abbrev pub border_in : List (Vec Seen Global) → ℕ → List Seen
+border_in borders n = or_no_table (slice_get borders n)
+
+-- each of the first codes has its table
+pub record AreBorders (g : Graph) (n : ℕ) (borders : List (Vec Seen Global)) : Type 0 where
+  pub len : length borders ≡ n
+  pub each : (m : ℕ) → m < n → IsBorder (code_of g m) (border_in borders m)

@@ -6,8 +6,10 @@
 
 mod blocks;
 mod checker;
+mod code_tables;
 mod cycles;
 mod depths;
+mod graph_tables;
 mod interface;
 mod nodes;
 mod order;

@@ -1,12 +1,14 @@
 // What a code has by numbers, also by numbers that it lacks.
 ghost use Rattle.std.specs.Prelude.{ℕ, ◌≡◌, ◌<◌, ◌≤◌, length, option_to_list};
 ghost use Rattle.tam_graph.specs.Graphs.{kind_at, block_at, depth_at, callee_of, owner_of, code_of, params_of, results_of};
+ghost use Rattle.tam_graph.specs.Reading.{IsCode};
 
 use tam_graph::{Code, Graph, Kind};
 
 pub fn node_count(code: &Code) -> u32
     ensures value { result ≡ length code.now.nodes }
     ensures few { result ≤ 1024 }
+    ensures of_text { IsCode code.now }
 {
     code.nodes().len() as u32
 }
@@ -16,6 +18,7 @@ pub fn block_count(code: &Code) -> usize
     ensures value { result ≡ length code.now.owners }
     ensures within { (x : ℕ) → x < length code.now.nodes → block_at code.now x < result }
     ensures few { result ≤ 2049 }
+    ensures of_text { IsCode code.now }
 {
     code.owners().len()
 }

@@ -1,5 +1,6 @@
 // A table of what the nodes of a code hand over at each place of each interface.
 ghost use Rattle.std.specs.Prelude.{◌≡◌, ◌≤◌, ◌*◌, ◌+◌, ◌<◌, length, IfOk};
+ghost use Rattle.tam_graph.specs.Reading.{IsCode};
 ghost use Rattle.tam_check.specs.Tables.{entry, replaced, IsTable};
 
 use crate::interface::Interface;
@@ -23,9 +24,11 @@ pub fn empty_table(alloc: Global, code: &Code, interfaces: usize) -> Result<Vec<
 pub fn full_table(alloc: Global, code: &Code, interfaces: usize) -> Result<Vec<Seen>, AllocError>
     requires few { interfaces ≤ 65536 }
     ensures value { IfOk result (λ table. IsTable code.now (length code.now.nodes) interfaces table.items) }
+    ensures of_text { IsCode code.now }
 {
+    let count = node_count(code);
     let mut table = empty_table(alloc, code, interfaces)?;
-    for x in 0..node_count(code) {
+    for x in 0..count {
         add_node(code, interfaces, &mut table, x);
     }
     Ok(table)

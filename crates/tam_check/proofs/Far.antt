@@ -1,11 +1,10 @@
 -- What a table doesn't tell of, no node has.
-use Rattle.std.proofs.Common.{◌≡◌, ℕ, ◌+◌, ◌*◌, ◌<◌, ◌≤◌, Bool, true, false, not, ◌&&◌, ◌||◌, ◌==◌, nat_lt, List, [], ◌∷◌, Option, Some, None, slice_get, slice_index_or, length, refl, sym, ap, ◌∙◌, subst, arith, true≢false, cond, inl, inr, tests}
+use Rattle.std.proofs.Common.{◌≡◌, ℕ, ◌+◌, ◌*◌, ◌<◌, ◌≤◌, Bool, true, false, ◌&&◌, ◌==◌, nat_lt, List, [], ◌∷◌, Option, Some, None, length, refl, sym, ap, ◌∙◌, subst, arith, true≢false, cond, inl, inr, tests}
 use Rattle.std.specs.List.{count_by}
 use Rattle.std.proofs.lemmas.Option.{slice_get_past}
 use Rattle.std.proofs.lemmas.List.{get_or_past}
 use Rattle.std.proofs.lemmas.List.Sums.{sum_by-cons}
-use Rattle.tam_word.specs.Lists.{below, any_of, all_of}
-use Rattle.tam_word.proofs.Tests.{number-eq, eq-number, both-true, true-both, below-test, test-below}
+use Rattle.tam_word.proofs.Tests.{number-eq, eq-number, self-eq, both-true, true-both, below-test, test-below}
 use Rattle.tam_word.proofs.Members.{In, all-in, in-all, any-in, below-in, in-below}
 use Rattle.tam_graph.specs.declared.kind.Kind.{Kind}
 use Rattle.tam_graph.specs.declared.kind.Kind.TheVariants.{Param, Arg, Ret, Give, Switch, Merge, Enter, Leave}
@@ -16,9 +15,15 @@ use Rattle.tam_graph.proofs.FewNodes.{block-below}
 use Rattle.tam_check.specs.declared.interface.Interface.{Interface}
 use Rattle.tam_check.specs.declared.seen.Seen.{Seen}
 use Rattle.tam_check.specs.declared.seen.Seen.TheVariants.{Nothing}
-use Rattle.tam_check.specs.Interfaces.{interface_of, stands_at, has_place, agrees, handed_depth}
+use Rattle.tam_check.specs.Interfaces.{interface_of, stands_at, has_place, agrees}
 use Rattle.tam_check.specs.Tables.{sort_of, owner_number, number, key, or_nothing, entry, same_side, belongs_to, belongs_at, size_of, size_in, Shows, IsTable, AreSizes}
 use Rattle.tam_check.proofs.Keys.{own_stands, stands-own, sort-below}
+
+-- a node has its own place
+pub own-place : (c : Code) (x : ℕ) (j : Interface) (p : ℕ) → interface_of (block_at c x) (kind_at c x) ≡ Some (j, p) → stands_at c j p x ≡ true
+own-place c x j p own =
+    stands-own j p (block_at c x) (kind_at c x) ∙ (ap (own_stands j p) own
+    ∙ true-both (same_side j j) (p == p) (true-both (sort_of j == sort_of j) (owner_number j == owner_number j) (self-eq (sort_of j)) (self-eq (owner_number j))) (self-eq p))
 
 -- a node of an interface has a place of it
 belongs-stands : (c : Code) (i : Interface) (x : ℕ) → belongs_at c i x ≡ true → (p : ℕ) × (stands_at c i p x ≡ true)

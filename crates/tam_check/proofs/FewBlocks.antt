@@ -5,8 +5,8 @@ use Rattle.std.proofs.lemmas.Grind.{flat_map-append}
 use Rattle.std.proofs.lemmas.Slice.Zip.{length-zip}
 use Rattle.tam_graph.specs.declared.kind.Kind.{Kind}
 use Rattle.tam_graph.specs.declared.kind.Kind.TheVariants.{Cond}
-use Rattle.tam_graph.specs.Graphs.{Code, kind_at, nodes_in, node_numbers, blocks_of}
-use Rattle.tam_graph.specs.Written.{Visit, AtNode, AtElse, AtEnd, branches, visits, node_visited, opened_by, in_file_order, in_opening_order, IsWritten}
+use Rattle.tam_graph.specs.Graphs.{Code, kind_at, nodes_in, blocks_of}
+use Rattle.tam_graph.specs.Written.{Visit, AtNode, AtElse, AtEnd, branches, visits, node_visited, opened_by, IsWritten}
 use Rattle.tam_graph.proofs.FewNodes.{length-below}
 
 -- how many blocks these lines open

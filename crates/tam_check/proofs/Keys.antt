@@ -1,8 +1,8 @@
 -- Where a table tells of a place: each place below 64 of each interface has its own entry.
-use Rattle.std.proofs.Common.{◌≡◌, ◌≢◌, ℕ, ◌+◌, ◌*◌, ◌<◌, Bool, true, false, ◌&&◌, ◌==◌, Option, Some, None, refl, sym, ap, ◌∙◌, arith, true≢false}
-use Rattle.tam_word.proofs.Tests.{number-eq, eq-number, number-differs, differs-number, both-true, true-both}
+use Rattle.std.proofs.Common.{◌≡◌, ℕ, ◌+◌, ◌*◌, ◌<◌, Bool, true, false, ◌&&◌, ◌==◌, Option, Some, None, refl, sym, ◌∙◌, arith}
+use Rattle.tam_word.proofs.Tests.{number-eq, eq-number, number-differs, both-true, true-both}
 use Rattle.tam_graph.specs.declared.kind.Kind.{Kind}
-use Rattle.tam_graph.specs.declared.kind.Kind.TheVariants.{Param, Const, Op as Operate, Seq, Call, Arg, Ret, Give, Alloc, Fetch, Store, Cond, Switch, Merge, Enter, Leave}
+use Rattle.tam_graph.specs.declared.kind.Kind.TheVariants.{Param, Arg, Ret, Give, Switch, Merge, Enter, Leave}
 use Rattle.tam_check.specs.declared.interface.Interface.{Interface}
 use Rattle.tam_check.specs.declared.interface.Interface.TheVariants.{Params, Results, Args, Rets, Switches, Merges, Ins, Outs}
 use Rattle.tam_check.specs.Interfaces.{stands, interface_of}

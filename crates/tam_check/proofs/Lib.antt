@@ -12,3 +12,4 @@ mod FewBlocks
 mod Sizing
 mod Far
 mod Borders
+mod PlacesLacking

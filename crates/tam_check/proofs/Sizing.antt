@@ -1,6 +1,5 @@
 -- The sizes of interfaces, node by node.
-use Rattle.std.proofs.Common.{◌≡◌, ◌≢◌, ℕ, zero, suc, ◌+◌, ◌<◌, ◌≤◌, Bool, true, false, ◌==◌, cond, List, [], ◌∷◌, Option, Some, None, length, slice_index_or, slice_set, sum_by, refl, sym, ap, ◌∙◌, subst, arith, get_or-set_same, get_or-set_other}
-use Rattle.std.specs.List.{count_by}
+use Rattle.std.proofs.Common.{◌≡◌, ◌≢◌, ℕ, suc, ◌+◌, ◌<◌, ◌≤◌, Bool, true, false, ◌==◌, cond, List, Some, length, slice_index_or, slice_set, refl, sym, ap, ◌∙◌, arith, get_or-set_same, get_or-set_other}
 use Rattle.std.proofs.lemmas.List.{length-set}
 use Rattle.std.proofs.lemmas.List.Sums.{sum_by_push, count_by-le-length}
 use Rattle.tam_word.specs.Lists.{below}
@@ -9,7 +8,7 @@ use Rattle.tam_graph.specs.Graphs.{Code, block_at, kind_at}
 use Rattle.tam_graph.proofs.FewNodes.{length-below}
 use Rattle.tam_check.specs.declared.interface.Interface.{Interface}
 use Rattle.tam_check.specs.Interfaces.{interface_of}
-use Rattle.tam_check.specs.Tables.{number, same_side, belongs_to, belongs_at, size_below, size_in, AreSizes}
+use Rattle.tam_check.specs.Tables.{number, belongs_to, belongs_at, size_below, size_in, AreSizes}
 use Rattle.tam_check.proofs.Keys.{same-side}
 
 -- one more node

@@ -1,8 +1,8 @@
 -- A table of the first n nodes becomes one of n + 1.
-use Rattle.std.proofs.Common.{◌≡◌, ◌≢◌, ℕ, zero, suc, ◌+◌, ◌*◌, ◌<◌, Bool, true, false, not, ◌&&◌, ◌||◌, ◌==◌, nat_lt, List, [], ◌∷◌, ◌++◌, Option, Some, None, slice_get, slice_set, length, refl, sym, ap, ◌∙◌, subst, arith, true≢false}
+use Rattle.std.proofs.Common.{◌≡◌, ◌≢◌, ℕ, zero, suc, ◌+◌, ◌<◌, Bool, true, false, ◌&&◌, ◌||◌, ◌==◌, nat_lt, List, [], ◌∷◌, Some, None, slice_get, slice_set, length, refl, sym, ap, ◌∙◌, subst, arith, true≢false}
 use Rattle.std.proofs.lemmas.List.{length-set}
 use Rattle.tam_word.specs.Lists.{below, any_of, all_of}
-use Rattle.tam_word.proofs.Tests.{number-eq, eq-number, number-differs, differs-number, both-true, true-both, below-test, test-below}
+use Rattle.tam_word.proofs.Tests.{number-eq, number-differs, differs-number, both-true, true-both, below-test, test-below}
 use Rattle.tam_graph.specs.Graphs.{Code, block_at, kind_at}
 use Rattle.tam_check.specs.declared.interface.Interface.{Interface}
 use Rattle.tam_check.specs.declared.seen.Seen.{Seen}
@@ -82,7 +82,7 @@ module _ (c : Code) (n : ℕ) (i : Interface) (k : ℕ) (s : Seen) (shows : Show
   shows-own e = record {
     place = with-something s (handed_depth c n) ∙ sym (place-next true e ∙ or-true (any_of (stands_at c i k) (below n)));
     depths = λ d. with-only s (handed_depth c n) d
-      ∙ (ap (λ b. b && (handed_depth c n == d)) (shows.depths d) ∙ sym (depth-next d (handed_depth c n == d) (rw e refl)));
+        ∙ (ap (λ b. b && (handed_depth c n == d)) (shows.depths d) ∙ sym (depth-next d (handed_depth c n == d) (rw e refl)));
   }
     where
       or-true : (b : Bool) → (b || true) ≡ true

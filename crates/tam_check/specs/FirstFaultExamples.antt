@@ -1,15 +1,13 @@
 -- What is told of small graphs, each worked by hand from the rules.
 -- The rule in words: docs/FORMATS.md, "What is accepted".
-use Rattle.std.specs.Prelude.{ℕ, ◌≡◌, refl, List, [], ◌∷◌, ◌++◌, Option, Some, None, map, codes}
+use Rattle.std.specs.Prelude.{ℕ, ◌≡◌, refl, List, [], ◌∷◌, Some, None, map, codes}
 use Rattle.tam_word.specs.declared.op.Op.TheVariants.{Add}
 use Rattle.tam_graph.specs.declared.kind.Kind.{Kind}
-use Rattle.tam_graph.specs.declared.kind.Kind.TheVariants.{Param, Const, Op as Operate, Call, Arg, Ret, Give, Alloc, Fetch, Store, Cond, Switch, Merge, Enter, Leave}
+use Rattle.tam_graph.specs.declared.kind.Kind.TheVariants.{Param, Const, Op as Operate, Call, Arg, Ret, Give, Alloc, Fetch, Cond, Switch, Merge, Enter, Leave}
 use Rattle.tam_graph.specs.declared.node.Node.{Node}
-use Rattle.tam_graph.specs.declared.place.Place.{Place}
 use Rattle.tam_graph.specs.declared.place.Place.TheVariants.{File, Node as At}
-use Rattle.tam_graph.specs.declared.check_cause.CheckCause.{CheckCause}
 use Rattle.tam_graph.specs.declared.check_cause.CheckCause.TheVariants.{NoMain, WrongBlock, PlaceTwice, PlaceRange, PlaceMissing, DepthMismatch, MainType, Cycle}
-use Rattle.tam_graph.specs.Graphs.{Graph, main_name, no_code}
+use Rattle.tam_graph.specs.Graphs.{Graph, main_name}
 use Rattle.tam_graph.specs.ExampleGraphs.{plain, deep, loop_graph, back_graph, seq_graph}
 use Rattle.tam_check.specs.FirstFault.{first_fault}
 

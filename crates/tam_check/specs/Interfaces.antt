@@ -59,3 +59,14 @@ agrees c i k d x = not (stands_at c i k x) || (handed_depth c x == d)
 -- what is handed over at place k of the interface has depth d
 abbrev pub all_agree : Code → Interface → ℕ → ℕ → Bool
 all_agree c i k d = all_of (agrees c i k d) (node_numbers c)
+
+-- the call lacks an arg for a param of this place, or a ret for a result
+abbrev pub call_lacks_at : Code → ℕ → Code → ℕ → Bool
+call_lacks_at c f callee k =
+    (has_place callee Params k && not (has_place c (Args f) k)) || (has_place callee Results k && not (has_place c (Rets f) k))
+
+-- a branch of the cond lacks an in for a switch of this place, or an out for a merge
+abbrev pub branches_lack_at : Code → ℕ → ℕ → ℕ → ℕ → Bool
+branches_lack_at c d y n k =
+    (has_place c (Switches d) k && (not (has_place c (Ins y) k) || not (has_place c (Ins n) k)))
+    || (has_place c (Merges d) k && (not (has_place c (Outs y) k) || not (has_place c (Outs n) k)))

@@ -4,10 +4,9 @@ ghost use Rattle.tam_check.specs.Interfaces.{has_place, all_agree};
 ghost use Rattle.tam_check.specs.Tables.{size_of, AreTables};
 
 use crate::interface::Interface;
-use crate::nodes::{block_count, node_count};
 use crate::seen::Seen;
 use crate::sizes::sizes;
-use crate::table::{full_table, look};
+use crate::table::{full_table, interface_count, look};
 use std::alloc::{AllocError, Global};
 use tam_graph::Code;
 
@@ -24,7 +23,7 @@ impl<'c> CodeTables<'c> {
     pub fn of(alloc: Global, code: &'c Code) -> Result<CodeTables<'c>, AllocError>
         ensures code { IfOk result (λ tables. tables.code.now ≡ code.now) }
     {
-        let interfaces = 8 * (node_count(code) as usize + block_count(code));
+        let interfaces = interface_count(code);
         let seen = full_table(alloc, code, interfaces)?;
         let sizes = sizes(alloc, code, interfaces)?;
         Ok(CodeTables { code, seen, sizes })

@@ -4,17 +4,19 @@ ghost use Rattle.tam_word.specs.Lists.{all_of};
 ghost use Rattle.tam_graph.specs.Graphs.{block_at, kind_at, owner_of, code_of, node_numbers, is_param, is_merge};
 ghost use Rattle.tam_graph.specs.Accepted.{has_right_depth, is_main_type, all_depths, gives_depth, enters_depth, both_enter_depth};
 
+use crate::code_tables::CodeTables;
+use crate::graph_tables::GraphTables;
 use crate::interface::Interface;
 use crate::nodes::{block_at, callee_of, depth_at, kind_at, owner_of};
-use crate::scans::all_agree;
-use tam_graph::{Code, Graph, Kind};
+use tam_graph::{Code, Kind};
 
 /// Whether a node and what it names have the depths that its line asks for.
 ///
 /// docs/FORMATS.md, "What is accepted".
-pub fn has_right_depth(graph: &Graph, code: &Code, x: u32, kind: Kind) -> bool
-    ensures value { result ≡ has_right_depth graph.now code.now x kind }
+pub fn has_right_depth(graph: &GraphTables<'_>, tables: &CodeTables<'_>, x: u32, kind: Kind) -> bool
+    ensures value { result ≡ has_right_depth graph.now.graph.now tables.now.code.now x kind }
 {
+    let code = tables.code;
     let depth = depth_at(code, x);
     match kind {
         Kind::Const { .. } | Kind::Call { .. } => depth == 0,
@@ -34,12 +36,12 @@ pub fn has_right_depth(graph: &Graph, code: &Code, x: u32, kind: Kind) -> bool
             && is_one_deeper(depth_at(code, array), depth_at(code, a)),
         Kind::Cond { test, .. } => depth_at(code, test) == 0,
         Kind::Switch { cond, place, a } => ins_agree(
-            code,
+            tables,
             place,
             depth_at(code, a),
             kind_at(code, cond),
         ),
-        Kind::Leave { place, a } => merges_agree(code, x, place, depth_at(code, a)),
+        Kind::Leave { place, a } => merges_agree(tables, x, place, depth_at(code, a)),
         Kind::Param { .. } | Kind::Give { .. } | Kind::Merge { .. } | Kind::Enter { .. } => true,
     }
 }
@@ -63,41 +65,42 @@ fn is_one_deeper(array: u8, element: u8) -> bool
     array > 0 && array - 1 == element
 }
 
-fn params_agree(graph: &Graph, callee: u32, place: u32, depth: u8) -> bool
-    ensures value { result ≡ all_depths (code_of graph.now callee) (is_param place) depth }
+fn params_agree(graph: &GraphTables<'_>, callee: u32, place: u32, depth: u8) -> bool
+    ensures value { result ≡ all_depths (code_of graph.now.graph.now callee) (is_param place) depth }
 {
-    callee >= graph.codes() || all_agree(graph.code(callee), Interface::Params, place, depth)
+    callee >= graph.graph.codes() || graph.border(callee).params_agree(place, depth)
 }
 
-fn results_agree(graph: &Graph, callee: u32, place: u32, depth: u8) -> bool
-    ensures value { result ≡ all_of (λ y. gives_depth (code_of graph.now callee) place depth (kind_at (code_of graph.now callee) y)) (node_numbers (code_of graph.now callee)) }
+fn results_agree(graph: &GraphTables<'_>, callee: u32, place: u32, depth: u8) -> bool
+    ensures value { result ≡ all_of (λ y. gives_depth (code_of graph.now.graph.now callee) place depth (kind_at (code_of graph.now.graph.now callee) y)) (node_numbers (code_of graph.now.graph.now callee)) }
 {
-    callee >= graph.codes() || all_agree(graph.code(callee), Interface::Results, place, depth)
+    callee >= graph.graph.codes() || graph.border(callee).results_agree(place, depth)
 }
 
 // Whether both branches of a cond, of this kind, take the place with this depth.
-fn ins_agree(code: &Code, place: u32, depth: u8, cond: Kind) -> bool
-    ensures value { result ≡ both_enter_depth code.now place depth cond }
+fn ins_agree(tables: &CodeTables<'_>, place: u32, depth: u8, cond: Kind) -> bool
+    ensures value { result ≡ both_enter_depth tables.now.code.now place depth cond }
 {
     match cond {
-        Kind::Cond { yes, no, .. } => branch_agrees(code, place, depth, yes)
-            && branch_agrees(code, place, depth, no),
+        Kind::Cond { yes, no, .. } => branch_agrees(tables, place, depth, yes)
+            && branch_agrees(tables, place, depth, no),
         _ => true,
     }
 }
 
-fn branch_agrees(code: &Code, place: u32, depth: u8, block: u32) -> bool
-    ensures value { result ≡ enters_depth code.now place depth block }
+fn branch_agrees(tables: &CodeTables<'_>, place: u32, depth: u8, block: u32) -> bool
+    ensures value { result ≡ enters_depth tables.now.code.now place depth block }
 {
-    all_agree(code, Interface::Ins { block }, place, depth)
+    tables.all_agree(Interface::Ins { block }, place, depth)
 }
 
 // Whether the merge of this place, of the cond that opens the node's block, has this depth.
-fn merges_agree(code: &Code, x: u32, place: u32, depth: u8) -> bool
-    ensures value { result ≡ all_of (λ d. all_depths code.now (is_merge d place) depth) (owner_of code.now (block_at code.now x)) }
+fn merges_agree(tables: &CodeTables<'_>, x: u32, place: u32, depth: u8) -> bool
+    ensures value { result ≡ all_of (λ d. all_depths tables.now.code.now (is_merge d place) depth) (owner_of tables.now.code.now (block_at tables.now.code.now x)) }
 {
+    let code = tables.code;
     match owner_of(code, block_at(code, x)) {
-        Some(cond) => all_agree(code, Interface::Merges { cond }, place, depth),
+        Some(cond) => tables.all_agree(Interface::Merges { cond }, place, depth),
         None => true,
     }
 }

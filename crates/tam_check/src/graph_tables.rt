@@ -1,10 +1,12 @@
 // A graph with a table of the params and the results of each code.
 ghost use Rattle.std.specs.Prelude.{◌≡◌, ◌<◌, length, IfOk};
 ghost use Rattle.tam_graph.specs.Graphs.{code_of};
+ghost use Rattle.tam_check.specs.Interfaces.{has_place, all_agree};
 ghost use Rattle.tam_check.specs.Tables.{IsBorder, AreBorders};
 
+use crate::interface::Interface;
 use crate::seen::Seen;
-use crate::table::full_table;
+use crate::table::{full_table, look};
 use std::alloc::{AllocError, Global};
 use tam_graph::{Code, Graph};
 
@@ -32,11 +34,50 @@ impl<'g> GraphTables<'g> {
     }
 
     /// What a code takes and gives.
-    pub fn border(&self, n: u32) -> &[Seen]
+    pub fn border(&self, n: u32) -> Border<'_>
         requires in_range { n < length self.now.graph.now.codes }
-        ensures value { IsBorder (code_of self.now.graph.now n) result.now }
+        ensures code { result.code.now ≡ code_of self.now.graph.now n }
     {
-        &self.borders[n as usize]
+        Border {
+            code: self.graph.code(n),
+            seen: &self.borders[n as usize],
+        }
+    }
+}
+
+/// A code, and what it takes and gives.
+#[derive(Clone, Copy, Debug)]
+pub struct Border<'t> {
+    pub code: &'t Code,
+    seen: &'t [Seen],
+    ghost border: { IsBorder code.now seen.now },
+}
+
+impl Border<'_> {
+    pub fn has_param(&self, place: u32) -> bool
+        ensures value { result ≡ has_place self.now.code.now Interface.Params place }
+    {
+        look(self.seen, Interface::Params, place).is_something()
+    }
+
+    pub fn has_result(&self, place: u32) -> bool
+        ensures value { result ≡ has_place self.now.code.now Interface.Results place }
+    {
+        look(self.seen, Interface::Results, place).is_something()
+    }
+
+    /// Whether all params of this place have this depth.
+    pub fn params_agree(&self, place: u32, depth: u8) -> bool
+        ensures value { result ≡ all_agree self.now.code.now Interface.Params place depth }
+    {
+        look(self.seen, Interface::Params, place).is_only(depth)
+    }
+
+    /// Whether the operands of all results of this place have this depth.
+    pub fn results_agree(&self, place: u32, depth: u8) -> bool
+        ensures value { result ≡ all_agree self.now.code.now Interface.Results place depth }
+    {
+        look(self.seen, Interface::Results, place).is_only(depth)
     }
 }
 

@@ -1,6 +1,6 @@
 // Interfaces: the nodes that hand values over at the border of a code, a call, a cond or a branch, each at a place.
 ghost use Rattle.std.specs.Prelude.{◌≡◌, ◌<◌, ◌*◌, ◌^◌};
-ghost use Rattle.tam_check.specs.Interfaces.{stands, interface_of};
+ghost use Rattle.tam_check.specs.Interfaces.{interface_of};
 ghost use Rattle.tam_check.specs.Tables.{number};
 
 use tam_graph::Kind;
@@ -54,27 +54,5 @@ impl Interface {
             Interface::Outs { block } => (block, 7),
         };
         8 * owner as usize + sort
-    }
-
-    /// Whether a node that stands in this block has this place of the interface.
-    pub fn has(self, place: u32, block: u32, kind: Kind) -> bool
-        ensures value { result ≡ stands self place block kind }
-    {
-        match self {
-            Interface::Params => matches!(kind, Kind::Param { place: at } if at == place),
-            Interface::Results => matches!(kind, Kind::Give { place: at, .. } if at == place),
-            Interface::Args { call } =>
-                matches!(kind, Kind::Arg { call: of, place: at, .. } if of == call && at == place),
-            Interface::Rets { call } =>
-                matches!(kind, Kind::Ret { call: of, place: at } if of == call && at == place),
-            Interface::Switches { cond } =>
-                matches!(kind, Kind::Switch { cond: of, place: at, .. } if of == cond && at == place),
-            Interface::Merges { cond } =>
-                matches!(kind, Kind::Merge { cond: of, place: at } if of == cond && at == place),
-            Interface::Ins { block: own } => block == own
-                && matches!(kind, Kind::Enter { place: at } if at == place),
-            Interface::Outs { block: own } => block == own
-                && matches!(kind, Kind::Leave { place: at, .. } if at == place),
-        }
     }
 }

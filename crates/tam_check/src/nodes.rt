@@ -2,6 +2,7 @@
 ghost use Rattle.std.specs.Prelude.{ℕ, ◌≡◌, ◌<◌, ◌≤◌, length, option_to_list};
 ghost use Rattle.tam_graph.specs.Graphs.{kind_at, block_at, depth_at, callee_of, owner_of, code_of, params_of, results_of};
 ghost use Rattle.tam_graph.specs.Reading.{IsCode};
+ghost use Rattle.tam_check.specs.Interfaces.{handed_depth};
 
 use tam_graph::{Code, Graph, Kind};
 
@@ -34,6 +35,7 @@ pub fn kind_at(code: &Code, x: u32) -> Kind
 
 pub fn block_at(code: &Code, x: u32) -> u32
     ensures value { result ≡ block_at code.now x }
+    ensures of_text { IsCode code.now }
 {
     match code.nodes().get(x as usize) {
         Some(node) => node.block,
@@ -47,6 +49,16 @@ pub fn depth_at(code: &Code, x: u32) -> u8
     match code.nodes().get(x as usize) {
         Some(node) => node.depth,
         None => 0,
+    }
+}
+
+/// The depth of the value that a node hands over.
+pub fn handed_depth(code: &Code, x: u32) -> u8
+    ensures value { result ≡ handed_depth code.now x }
+{
+    match kind_at(code, x) {
+        Kind::Give { a, .. } => depth_at(code, a),
+        _ => depth_at(code, x),
     }
 }
 

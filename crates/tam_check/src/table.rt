@@ -4,23 +4,46 @@ ghost use Rattle.tam_graph.specs.Reading.{IsCode};
 ghost use Rattle.tam_check.specs.Tables.{entry, replaced, IsTable};
 
 use crate::interface::Interface;
-use crate::nodes::{block_at, kind_at, node_count};
-use crate::scans::handed_depth;
+use crate::nodes::{block_at, block_count, handed_depth, kind_at, node_count};
 use crate::seen::Seen;
 use std::alloc::{AllocError, Global};
 use tam_graph::Code;
 
 const PLACES: usize = 64;
 
-/// A table of no node, for the first interfaces by their numbers.
-pub fn empty_table(alloc: Global, code: &Code, interfaces: usize) -> Result<Vec<Seen>, AllocError>
+/// How many interfaces a code has room for: eight for each node and each block.
+pub fn interface_count(code: &Code) -> usize
+    ensures value { result ≡ 8 * (length code.now.nodes + length code.now.owners) }
+    ensures few { result ≤ 24584 }
+    ensures of_text { IsCode code.now }
+{
+    8 * (node_count(code) as usize + block_count(code))
+}
+
+/// A table of no node, for all interfaces.
+pub fn no_nodes(alloc: Global, code: &Code) -> Result<Vec<Seen>, AllocError>
+    ensures value { IfOk result (λ table. IsTable code.now 0 (8 * (length code.now.nodes + length code.now.owners)) table.items) }
+{
+    empty_table(alloc, code, interface_count(code))
+}
+
+/// Adds the next node to a table of all interfaces.
+pub fn add_to_all(code: &Code, table: &mut [Seen], x: u32)
+    requires before { IsTable code.now x (8 * (length code.now.nodes + length code.now.owners)) table.old }
+    ensures after { IsTable code.now (x + 1) (8 * (length code.now.nodes + length code.now.owners)) table.new }
+{
+    add_node(code, interface_count(code), table, x);
+}
+
+// A table of no node, for the first interfaces by their numbers.
+fn empty_table(alloc: Global, code: &Code, interfaces: usize) -> Result<Vec<Seen>, AllocError>
     requires few { interfaces ≤ 65536 }
     ensures value { IfOk result (λ table. IsTable code.now 0 interfaces table.items) }
 {
     vec![in alloc; Seen::Nothing; PLACES * interfaces]
 }
 
-/// A table of all nodes.
+/// A table of all nodes, for the first interfaces by their numbers.
 pub fn full_table(alloc: Global, code: &Code, interfaces: usize) -> Result<Vec<Seen>, AllocError>
     requires few { interfaces ≤ 65536 }
     ensures value { IfOk result (λ table. IsTable code.now (length code.now.nodes) interfaces table.items) }
@@ -34,8 +57,8 @@ pub fn full_table(alloc: Global, code: &Code, interfaces: usize) -> Result<Vec<S
     Ok(table)
 }
 
-/// Adds the next node to a table.
-pub fn add_node(code: &Code, interfaces: usize, table: &mut [Seen], x: u32)
+// Adds the next node to a table.
+fn add_node(code: &Code, interfaces: usize, table: &mut [Seen], x: u32)
     requires before { IsTable code.now x interfaces table.old }
     ensures after { IsTable code.now (x + 1) interfaces table.new }
 {

@@ -8,7 +8,7 @@ use Rattle.tam_check.proofs.depths.merges_agree.Goals as goal
 
 pub returns-in-Some : goal.returns-in-Some
 returns-in-Some c = record {
-  value = rw (← c.block_at.ensures.value) (c.all_agree.ensures.value ∙ (sym (merges-agree c.args.code.now c.in-Some.cond c.args.place c.args.depth)
-      ∙ (sym (all-of_one (λ d. all_depths c.args.code.now (is_merge d c.args.place) c.args.depth) c.in-Some.cond)
-      ∙ ap (all_of (λ d. all_depths c.args.code.now (is_merge d c.args.place) c.args.depth)) c.in-Some.ensures.value)));
+  value = rw (← c.block_at.ensures.value) (c.all_agree.ensures.value ∙ (sym (merges-agree c.args.tables.now.code.now c.in-Some.cond c.args.place c.args.depth)
+      ∙ (sym (all-of_one (λ d. all_depths c.args.tables.now.code.now (is_merge d c.args.place) c.args.depth) c.in-Some.cond)
+      ∙ ap (all_of (λ d. all_depths c.args.tables.now.code.now (is_merge d c.args.place) c.args.depth)) c.in-Some.ensures.value)));
 }

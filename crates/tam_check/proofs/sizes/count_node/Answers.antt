@@ -1,8 +1,7 @@
-use Rattle.std.proofs.Common.{◌≡◌, ◌≤◌, ◌<◌, ◌∙◌, ap, sym, Some, None, slice_index_or, false, ℕ, arith}
+use Rattle.std.proofs.Common.{◌≡◌, ◌∙◌, ap, sym, Some, None, arith}
 use Rattle.tam_graph.specs.Graphs.{block_at, kind_at}
-use Rattle.tam_check.specs.declared.interface.Interface.{Interface}
 use Rattle.tam_check.specs.Interfaces.{interface_of}
-use Rattle.tam_check.specs.Tables.{number, belongs_to}
+use Rattle.tam_check.specs.Tables.{belongs_to}
 use Rattle.tam_check.proofs.Sizing.{size-small, sizes-same, sizes-untold, sizes-added}
 use Rattle.tam_check.proofs.sizes.count_node.Goals as goal
 

@@ -1,7 +1,6 @@
-use Rattle.std.proofs.Common.{◌≡◌, ◌∙◌, ap, sym, Some, None}
+use Rattle.std.proofs.Common.{◌≡◌, ◌∙◌, sym, Some, None}
 use Rattle.tam_graph.specs.Graphs.{block_at, kind_at}
 use Rattle.tam_check.specs.Interfaces.{interface_of}
-use Rattle.tam_check.specs.Tables.{replaced, with_depth}
 use Rattle.tam_check.proofs.Tabling.{table-none, table-added}
 use Rattle.tam_check.proofs.table.add_node.Goals as goal
 

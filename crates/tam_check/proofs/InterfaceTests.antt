@@ -86,14 +86,6 @@ merges-agree c e k d = all-filter _ _ (node_numbers c) ∙ all-same _ _ (node_nu
     go x (Give j a) = refl
     go x other = refl
 
--- the operands of the results of a place have this depth
-pub results-agree : (c : Code) (k d : ℕ) → all_of (λ y. gives_depth c k d (kind_at c y)) (node_numbers c) ≡ all_agree c Results k d
-results-agree c k d = all-same _ _ (node_numbers c) (λ x. go x (kind_at c x))
-  where
-    go : (x : ℕ) (n : Kind) → gives_depth c k d n ≡ (not (is_give k n) || (depth_of_kind c x n == d))
-    go x (Give j a) = refl
-    go x other = refl
-
 -- the `in`s of a place have this depth in a branch
 pub ins-agree : (c : Code) (k d b : ℕ) → enters_depth c k d b ≡ all_agree c (Ins b) k d
 ins-agree c k d b =

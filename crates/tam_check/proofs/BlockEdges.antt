@@ -21,7 +21,8 @@ module _ (c : Code) (b : ℕ) where
   -- a source of a node of the block
   pub source-edge : (a y : ℕ) → y < length c.nodes → block_at c y ≡ b → In a (sources_of c y) → In {X = ℕ × ℕ} (a, y) (value_edges c b)
   source-edge a y l e m =
-      flat_map-in (edges_to c) y (a, y) (nodes_in c b) (filter-in (λ z. block_at c z == b) y (node_numbers c) (below-in y (length c.nodes) l) (eq-number (block_at c y) b e))
+      flat_map-in (edges_to c) y (a, y) (nodes_in c b) (filter-in (λ z. block_at c z == b) y (node_numbers c) (below-in y (length c.nodes) l)
+      (eq-number (block_at c y) b e))
       (subst (In {X = ℕ × ℕ} (a, y)) (sym (edges-sources c y)) (map-in (λ z. (z, y)) a (sources_of c y) m))
 
   -- there are no others
@@ -57,7 +58,8 @@ pub goes-on : (es : Edges) (x y z : ℕ) → goes es x y ≡ true → In {X = �
 goes-on es x y z h m =
     let r = any-in (λ (e : ℕ × ℕ). (e.0 == x) && reaches es e.1 y) es h in
     let t = both-true (r.0.0 == x) (reaches es r.0.1 y) r.2 in
-    in-any (λ e. (e.0 == x) && reaches es e.1 z) es r.0 r.1 (true-both (r.0.0 == x) (reaches es r.0.1 z) t.0 (reaches-trans es r.0.1 y z t.1 (edge-reaches es y z (in-edge es y z m))))
+    in-any (λ e. (e.0 == x) && reaches es e.1 z) es r.0 r.1
+    (true-both (r.0.0 == x) (reaches es r.0.1 z) t.0 (reaches-trans es r.0.1 y z t.1 (edge-reaches es y z (in-edge es y z m))))
 
 -- what begins with an edge goes on by a walk
 pub goes-walk : (es : Edges) (x y : ℕ) → goes es x y ≡ true → (z : ℕ) × In {X = ℕ × ℕ} (x, z) es × Walk es z y

@@ -9,7 +9,8 @@ use Rattle.tam_check.specs.Tables.{or_no_table, border_in, IsBorder, AreBorders}
 use Rattle.tam_check.proofs.CycleTable.{get-last, get-before}
 
 -- one more code
-pub borders-next : (g : Graph) (n : ℕ) (borders : List (Vec Seen Global)) (border : Vec Seen Global) → AreBorders g n borders → IsBorder (code_of g n) border.items
+pub borders-next : (g : Graph) (n : ℕ) (borders : List (Vec Seen Global)) (border : Vec Seen Global) → AreBorders g n borders
+    → IsBorder (code_of g n) border.items
     → AreBorders g (n + 1) (borders ++ border ∷ [])
 borders-next g n borders border p here = record {
   len = omega (arith, length-append borders (border ∷ []), p.len);

@@ -13,7 +13,8 @@ causes b t r m d a c =
     ++ (where_so a MainType ++ where_so c Cycle)))))
 
 -- the last of them
-last-cause : (b t r m d a c : Bool) → b ≡ false → t ≡ false → r ≡ false → m ≡ false → d ≡ true → a ≡ false → c ≡ true → take 1 (causes b t r m d a c) ≡ Cycle ∷ []
+last-cause : (b t r m d a c : Bool) → b ≡ false → t ≡ false → r ≡ false → m ≡ false → d ≡ true → a ≡ false → c ≡ true
+    → take 1 (causes b t r m d a c) ≡ Cycle ∷ []
 last-cause false false false false true false true b t r m d a c = refl
 last-cause true t r m d a c p q s u v w y = absurd cc
 last-cause false true r m d a c p q s u v w y = absurd cc
@@ -24,7 +25,8 @@ last-cause false false false false true true c p q s u v w y = absurd cc
 last-cause false false false false true false false p q s u v w y = absurd cc
 
 -- where no other cause holds, the first is the cycle
-pub first-cycle : (g : Graph) (n x : ℕ) (c : Code) → c ≡ code_of g n → is_wrong_block c x ≡ false → is_place_twice c x ≡ false → is_place_range g c x (kind_at c x) ≡ false
+pub first-cycle : (g : Graph) (n x : ℕ) (c : Code) → c ≡ code_of g n → is_wrong_block c x ≡ false → is_place_twice c x ≡ false
+    → is_place_range g c x (kind_at c x) ≡ false
     → is_place_missing g c x (kind_at c x) ≡ false → has_right_depth g c x (kind_at c x) ≡ true → ((n == g.main) && is_main_type c x (kind_at c x)) ≡ false
     → is_cycle c x ≡ true → take 1 (faults_at g n x) ≡ Cycle ∷ []
 first-cycle g n x c e b t r m d a y = subst (λ z. take 1 (all z) ≡ Cycle ∷ []) e (last-cause _ _ _ _ _ _ _ b t r m d a y)

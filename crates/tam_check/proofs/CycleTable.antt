@@ -1,5 +1,6 @@
 -- The least node of each block that reaches itself, block by block, and within a block node by node.
-use Rattle.std.proofs.Common.{◌≡◌, ℕ, suc, zero, ◌+◌, ◌<◌, ◌≤◌, Bool, true, false, ◌==◌, ◌&&◌, List, [], ◌∷◌, ◌++◌, filter, Option, Some, None, length, slice_get, refl, sym, ap, ◌∙◌, subst, arith, inl, inr, true≢false, nat_lt, tests}
+use Rattle.std.proofs.Common.{◌≡◌, ℕ, suc, zero, ◌+◌, ◌<◌, ◌≤◌, Bool, true, false, ◌==◌, ◌&&◌, List, [], ◌∷◌, ◌++◌, filter, Option, Some, None}
+use Rattle.std.proofs.Common.{length, slice_get, refl, sym, ap, ◌∙◌, subst, arith, inl, inr, true≢false, nat_lt, tests}
 use Rattle.std.specs.Option.{option_to_list}
 use Rattle.std.proofs.lemmas.Option.{slice_get_past}
 use Rattle.std.proofs.lemmas.List.{length-append}
@@ -68,11 +69,13 @@ first-below test (suc n) x l none here = elim (last-or_before x n l) [
 module _ (c : Code) (b : ℕ) where
   -- the least node of a block that reaches itself
   pub cycle-found : (x : ℕ) → x < length c.nodes → any_of (is_on_cycle c b) (below x) ≡ false → is_on_cycle c b x ≡ true → on_cycle c b ≡ x ∷ []
-  cycle-found x l none here = first-filter (λ y. block_at c y == b) (reaches_itself (value_edges c b)) (node_numbers c) ∙ first-below (is_on_cycle c b) (length c.nodes) x l none here
+  cycle-found x l none here = first-filter (λ y. block_at c y == b) (reaches_itself (value_edges c b)) (node_numbers c)
+      ∙ first-below (is_on_cycle c b) (length c.nodes) x l none here
 
   -- or none
   pub cycle-none : any_of (is_on_cycle c b) (node_numbers c) ≡ false → on_cycle c b ≡ []
-  cycle-none none = first-filter (λ y. block_at c y == b) (reaches_itself (value_edges c b)) (node_numbers c) ∙ first-none (is_on_cycle c b) (node_numbers c) none
+  cycle-none none = first-filter (λ y. block_at c y == b) (reaches_itself (value_edges c b)) (node_numbers c)
+      ∙ first-none (is_on_cycle c b) (node_numbers c) none
 
 -- ---- block by block
 
@@ -115,7 +118,8 @@ cycles-next c n cycles found p here = record {
     ]
 
 -- all blocks, in which all nodes stand
-pub cycles-all : (c : Code) (cycles : List (Option ℕ)) → AreCyclesBelow c (length c.owners) cycles → ((x : ℕ) → x < length c.nodes → block_at c x < length c.owners) → AreCycles c cycles
+pub cycles-all : (c : Code) (cycles : List (Option ℕ)) → AreCyclesBelow c (length c.owners) cycles
+    → ((x : ℕ) → x < length c.nodes → block_at c x < length c.owners) → AreCycles c cycles
 cycles-all c cycles p within = λ b. go b (nat_lt b (length c.owners)) refl
   where
     beyond-all : (b : ℕ) → nat_lt b (length c.owners) ≡ false → (xs : List ℕ) → on_cycle c b ≡ xs → xs ≡ []

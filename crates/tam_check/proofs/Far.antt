@@ -1,5 +1,6 @@
 -- What a table doesn't tell of, no node has.
-use Rattle.std.proofs.Common.{◌≡◌, ℕ, ◌+◌, ◌*◌, ◌<◌, ◌≤◌, Bool, true, false, ◌&&◌, ◌==◌, nat_lt, List, [], ◌∷◌, Option, Some, None, length, refl, sym, ap, ◌∙◌, subst, arith, true≢false, cond, inl, inr, tests}
+use Rattle.std.proofs.Common.{◌≡◌, ℕ, ◌+◌, ◌*◌, ◌<◌, ◌≤◌, Bool, true, false, ◌&&◌, ◌==◌, nat_lt, List, [], ◌∷◌, Option, Some, None, length, refl, sym}
+use Rattle.std.proofs.Common.{ap, ◌∙◌, subst, arith, true≢false, cond, inl, inr, tests}
 use Rattle.std.specs.List.{count_by}
 use Rattle.std.proofs.lemmas.Option.{slice_get_past}
 use Rattle.std.proofs.lemmas.List.{get_or_past}
@@ -16,14 +17,16 @@ use Rattle.tam_check.specs.declared.interface.Interface.{Interface}
 use Rattle.tam_check.specs.declared.seen.Seen.{Seen}
 use Rattle.tam_check.specs.declared.seen.Seen.TheVariants.{Nothing}
 use Rattle.tam_check.specs.Interfaces.{interface_of, stands_at, has_place, agrees}
-use Rattle.tam_check.specs.Tables.{sort_of, owner_number, number, key, or_nothing, entry, same_side, belongs_to, belongs_at, size_of, size_in, Shows, IsTable, AreSizes}
+use Rattle.tam_check.specs.Tables.{sort_of, owner_number, number, key, or_nothing, entry, same_side, belongs_to, belongs_at, size_of, size_in, Shows}
+use Rattle.tam_check.specs.Tables.{IsTable, AreSizes}
 use Rattle.tam_check.proofs.Keys.{own_stands, stands-own, sort-below}
 
 -- a node has its own place
 pub own-place : (c : Code) (x : ℕ) (j : Interface) (p : ℕ) → interface_of (block_at c x) (kind_at c x) ≡ Some (j, p) → stands_at c j p x ≡ true
 own-place c x j p own =
     stands-own j p (block_at c x) (kind_at c x) ∙ (ap (own_stands j p) own
-    ∙ true-both (same_side j j) (p == p) (true-both (sort_of j == sort_of j) (owner_number j == owner_number j) (self-eq (sort_of j)) (self-eq (owner_number j))) (self-eq p))
+    ∙ true-both (same_side j j) (p == p) (true-both (sort_of j == sort_of j) (owner_number j == owner_number j) (self-eq (sort_of j))
+    (self-eq (owner_number j))) (self-eq p))
 
 -- a node of an interface has a place of it
 belongs-stands : (c : Code) (i : Interface) (x : ℕ) → belongs_at c i x ≡ true → (p : ℕ) × (stands_at c i p x ≡ true)
@@ -32,8 +35,11 @@ belongs-stands c i x h = go (interface_of (block_at c x) (kind_at c x)) refl
     go : (o : Option (Interface × ℕ)) → interface_of (block_at c x) (kind_at c x) ≡ o → (p : ℕ) × (stands_at c i p x ≡ true)
     go None e = absurd (true≢false (sym h ∙ ap (belongs_to i) e))
     go (Some q) e =
-        let side : same_side q.0 i ≡ true = sym (ap (belongs_to i) e) ∙ h in
-        (q.1, stands-own i q.1 (block_at c x) (kind_at c x) ∙ (ap (own_stands i q.1) e ∙ true-both (same_side q.0 i) (q.1 == q.1) side (eq-number q.1 q.1 refl)))
+        let side : same_side q.0 i ≡ true = sym (ap (belongs_to i) e) ∙ h in (
+          q.1,
+          stands-own i q.1 (block_at c x) (kind_at c x)
+              ∙ (ap (own_stands i q.1) e ∙ true-both (same_side q.0 i) (q.1 == q.1) side (eq-number q.1 q.1 refl)),
+        )
 
 -- where none passes, the count is 0
 count-none : (test : ℕ → Bool) (xs : List ℕ) → ((x : ℕ) → In x xs → test x ≡ false) → count_by test xs ≡ 0
@@ -72,11 +78,13 @@ module _ (c : Code) (code : IsCode c) where
       let low = test-below d (length c.nodes) (both-true (nat_lt d (length c.nodes)) _ s.0).0 in
       (test-below k 64 s.1, omega (arith, low))
   near x l (Enter k) h = let low = block-below code.0 c code.2.written x l in (test-below k 64 h, omega (arith, low))
-  near x l (Leave k a) h = let low = block-below code.0 c code.2.written x l in (test-below k 64 (both-true (is_operand c a) (nat_lt k 64) h).1, omega (arith, low))
+  near x l (Leave k a) h = let low = block-below code.0 c code.2.written x l in
+      (test-below k 64 (both-true (is_operand c a) (nat_lt k 64) h).1, omega (arith, low))
   near x l other h = tt
 
   -- and so is each that it has a place of
-  pub near-place : (x : ℕ) → x < length c.nodes → (i : Interface) (k : ℕ) → stands_at c i k x ≡ true → (k < 64) × (number i < 8 * (length c.nodes + length c.owners))
+  pub near-place : (x : ℕ) → x < length c.nodes → (i : Interface) (k : ℕ) → stands_at c i k x ≡ true
+      → (k < 64) × (number i < 8 * (length c.nodes + length c.owners))
   unfolding Near
   near-place x l i k h =
       let line = all-in (λ y. is_line code.0 c (kind_at c y)) (node_numbers c) code.2.written.lines x (below-in x (length c.nodes) l) in
@@ -119,13 +127,16 @@ module _ (c : Code) (code : IsCode c) where
       go true e false f =
           let past : length table ≤ key i k = let long = is.len in grind (arith, tests) in
           let told : entry table i k ≡ Nothing = rw (entry, e) (ap or_nothing (slice_get_past table (key i k) past)) in
-          subst (Shows c (length c.nodes) i k) (sym told) (shows-nothing i k (λ x l h. true≢false (sym (below-test (number i) interfaces (within x k l h)) ∙ f)))
+          subst (Shows c (length c.nodes) i k) (sym told) (shows-nothing i k
+          (λ x l h. true≢false (sym (below-test (number i) interfaces (within x k l h)) ∙ f)))
 
   -- each interface of the code has its size, or none
-  pub sizes-all : (sizes : List ℕ) → AreSizes c (length c.nodes) (8 * (length c.nodes + length c.owners)) sizes → (i : Interface) → size_in sizes (number i) ≡ size_of c i
+  pub sizes-all : (sizes : List ℕ) → AreSizes c (length c.nodes) (8 * (length c.nodes + length c.owners)) sizes → (i : Interface)
+      → size_in sizes (number i) ≡ size_of c i
   sizes-all sizes is i = go (nat_lt (number i) (8 * (length c.nodes + length c.owners))) refl
     where
-      none : nat_lt (number i) (8 * (length c.nodes + length c.owners)) ≡ false → (x : ℕ) → x < length c.nodes → (b : Bool) → belongs_at c i x ≡ b → belongs_at c i x ≡ false
+      none : nat_lt (number i) (8 * (length c.nodes + length c.owners)) ≡ false → (x : ℕ) → x < length c.nodes → (b : Bool) → belongs_at c i x ≡ b
+          → belongs_at c i x ≡ false
       none e x l false h = h
       none e x l true h =
           let p = belongs-stands c i x h in
@@ -135,4 +146,5 @@ module _ (c : Code) (code : IsCode c) where
       go true e = is.each i (test-below (number i) (8 * (length c.nodes + length c.owners)) e)
       go false e =
           let past : length sizes ≤ number i = let long = is.len in grind (arith, tests) in
-          get_or_past sizes (number i) 0 past ∙ sym (count-none (belongs_at c i) (node_numbers c) (λ x m. none e x (in-below x (length c.nodes) m) (belongs_at c i x) refl))
+          get_or_past sizes (number i) 0 past ∙ sym (count-none (belongs_at c i) (node_numbers c)
+          (λ x m. none e x (in-below x (length c.nodes) m) (belongs_at c i x) refl))

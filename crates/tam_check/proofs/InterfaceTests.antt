@@ -48,14 +48,16 @@ none-passes [] = refl
 none-passes (x ∷ xs) = none-passes xs
 
 -- a node of an interface has its place twice where an earlier one has it
-pub twice-below : (c : Code) (x : ℕ) (i : Interface) (k : ℕ) → interface_of (block_at c x) (kind_at c x) ≡ Some (i, k) → is_place_twice c x ≡ has_place_below c i k x
+pub twice-below : (c : Code) (x : ℕ) (i : Interface) (k : ℕ) → interface_of (block_at c x) (kind_at c x) ≡ Some (i, k)
+    → is_place_twice c x ≡ has_place_below c i k x
 twice-below c x i k e =
     any-same _ _ (below x) (λ y. same-own (block_at c x) (block_at c y) (kind_at c y) (kind_at c x) ∙ ap (has_own_place (block_at c y) (kind_at c y)) e)
 
 -- any other hasn't
 pub never-twice : (c : Code) (x : ℕ) → interface_of (block_at c x) (kind_at c x) ≡ None → is_place_twice c x ≡ false
 never-twice c x e =
-    any-same _ (λ y. false) (below x) (λ y. same-own (block_at c x) (block_at c y) (kind_at c y) (kind_at c x) ∙ ap (has_own_place (block_at c y) (kind_at c y)) e)
+    any-same _ (λ y. false) (below x) (λ y. same-own (block_at c x) (block_at c y) (kind_at c y) (kind_at c x)
+    ∙ ap (has_own_place (block_at c y) (kind_at c y)) e)
     ∙ none-passes (below x)
 
 -- ---- the places of a branch

@@ -59,7 +59,8 @@ same-key j i p k l m = go (key j p == key i k) refl
     go : (b : Bool) → (key j p == key i k) ≡ b → (same_side j i && (p == k)) ≡ (key j p == key i k)
     go true e =
         let s = parts (owner_number j) (owner_number i) (sort_of j) (sort_of i) p k (sort-below j) (sort-below i) l m (number-eq (key j p) (key i k) e) in
-        true-both (same_side j i) (p == k) (true-both (sort_of j == sort_of i) (owner_number j == owner_number i) (eq-number (sort_of j) (sort_of i) s.0) (eq-number (owner_number j) (owner_number i) s.1)) (eq-number p k s.2)
+        true-both (same_side j i) (p == k) (true-both (sort_of j == sort_of i) (owner_number j == owner_number i) (eq-number (sort_of j) (sort_of i) s.0)
+        (eq-number (owner_number j) (owner_number i) s.1)) (eq-number p k s.2)
         ∙ sym e
     go false e = differs (same_side j i && (p == k)) refl ∙ sym e
       where
@@ -89,7 +90,8 @@ same-side j i = go (number j == number i) refl
     go true e =
         let s = parts (owner_number j) (owner_number i) (sort_of j) (sort_of i) 0 0 (sort-below j) (sort-below i) (omega arith) (omega arith)
         (let f = number-eq (number j) (number i) e in omega (arith, f)) in
-        true-both (sort_of j == sort_of i) (owner_number j == owner_number i) (eq-number (sort_of j) (sort_of i) s.0) (eq-number (owner_number j) (owner_number i) s.1) ∙ sym e
+        true-both (sort_of j == sort_of i) (owner_number j == owner_number i) (eq-number (sort_of j) (sort_of i) s.0)
+        (eq-number (owner_number j) (owner_number i) s.1) ∙ sym e
     go false e = differs (same_side j i) refl ∙ sym e
       where
         differs : (b : Bool) → same_side j i ≡ b → same_side j i ≡ false

@@ -1,5 +1,6 @@
 -- Marking what a node reaches: pass by pass, and node by node within a pass.
-use Rattle.std.proofs.Common.{◌≡◌, ℕ, suc, zero, ◌+◌, ◌<◌, Bool, true, false, not, ◌==◌, ◌||◌, ◌&&◌, List, [], ◌∷◌, length, slice_set, refl, sym, ap, ◌∙◌, subst, arith, inl, inr, ◌⊎◌, true≢false}
+use Rattle.std.proofs.Common.{◌≡◌, ℕ, suc, zero, ◌+◌, ◌<◌, Bool, true, false, not, ◌==◌, ◌||◌, ◌&&◌, List, [], ◌∷◌, length, slice_set, refl, sym, ap}
+use Rattle.std.proofs.Common.{◌∙◌, subst, arith, inl, inr, ◌⊎◌, true≢false}
 use Rattle.std.proofs.lemmas.List.{length-set}
 use Rattle.tam_word.proofs.Tests.{number-eq, eq-number, both-true, not-true}
 use Rattle.tam_word.proofs.Members.{In, any-in, in-any}
@@ -73,7 +74,11 @@ module _ (c : Code) (b from : ℕ) where
         let t = both-true (block_at c n == b) (takes_marked c from marks n) s.1 in
         let here = goes-new marks n p.reached l (number-eq (block_at c n) b t.0) t.1 in
         let fewer = fewer-marked marks n (omega (arith, l, p.len)) (not-true (is_marked marks n) s.0) in
-        let less : unmarked (slice_set marks n true) < unmarked old = elim p.fewer [ inl q ↦ omega (arith, fewer, q) | inr e ↦ subst (λ z. unmarked (slice_set marks n true) < unmarked z) e fewer ] in
+        let less : unmarked (slice_set marks n true) < unmarked old = elim p.fewer [
+          | inl q ↦ omega (arith, fewer, q)
+          | inr e ↦ subst
+              (λ z. unmarked (slice_set marks n true) < unmarked z) e fewer
+        ] in
         record {
           len = length-set marks n true ∙ p.len;
           reached = λ y h. elim (marked-cases marks n y h) [ inl e ↦ subst (λ z. goes (value_edges c b) from z ≡ true) (sym e) here | inr k ↦ p.reached y k ];
@@ -107,7 +112,8 @@ module _ (c : Code) (b from : ℕ) where
         closed : grew ≡ false → (y : ℕ) → y < n + 1 → block_at c y ≡ b → takes_marked c from marks y ≡ true → is_marked marks y ≡ true
         closed g y l e h = elim (last-or_before y n (omega arith)) [
           | inl below ↦ p.closed g y below e h
-          | inr same ↦ subst (λ z. is_marked marks z ≡ true) (sym same) (here (subst (λ z. block_at c z ≡ b) same e) (subst (λ z. takes_marked c from marks z ≡ true) same h))
+          | inr same ↦ subst (λ z. is_marked marks z ≡ true) (sym same)
+              (here (subst (λ z. block_at c z ≡ b) same e) (subst (λ z. takes_marked c from marks z ≡ true) same h))
         ]
 
 -- ---- at the end

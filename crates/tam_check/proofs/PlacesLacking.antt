@@ -42,9 +42,11 @@ or-cases false t h = inr h
 
 -- ---- calls
 
-module _ (c : Code) (f : ℕ) (callee : Code) (low : (k : ℕ) → has_place callee Params k ≡ true → k < 64) (low_too : (k : ℕ) → has_place callee Results k ≡ true → k < 64) where
+module _ (c : Code) (f : ℕ) (callee : Code) (low : (k : ℕ) → has_place callee Params k ≡ true → k < 64)
+    (low_too : (k : ℕ) → has_place callee Results k ≡ true → k < 64) where
   -- a node of the callee that the call lacks a place for
-  lacks-node : (y : ℕ) → In y (node_numbers callee) → (m : Kind) → kind_at callee y ≡ m → lacks_for_call c f m ≡ true → any_of (call_lacks_at c f callee) (below 64) ≡ true
+  lacks-node : (y : ℕ) → In y (node_numbers callee) → (m : Kind) → kind_at callee y ≡ m → lacks_for_call c f m ≡ true
+      → any_of (call_lacks_at c f callee) (below 64) ≡ true
   lacks-node y i (Param k) e h =
       let has = in-any (stands_at callee Params k) (node_numbers callee) y i (ap (is_param k) e ∙ self-eq k) in
       in-any (call_lacks_at c f callee) (below 64) k (below-in k 64 (low k has))
@@ -88,15 +90,20 @@ module _ (c : Code) (f : ℕ) (callee : Code) (low : (k : ℕ) → has_place cal
 
 module _ (c : Code) (d y n : ℕ) (low : (i : Interface) (k : ℕ) → has_place c i k ≡ true → k < 64) where
   -- a branch lacks an `in`, by the places of branches
-  lacks-ins : (k : ℕ) → (not (has_node_in c y (is_enter k)) || not (has_node_in c n (is_enter k))) ≡ (not (has_place c (Ins y) k) || not (has_place c (Ins n) k))
-  lacks-ins k = ap (λ b. not b || not (has_node_in c n (is_enter k))) (enters-place c y k) ∙ ap (λ b. not (has_place c (Ins y) k) || not b) (enters-place c n k)
+  lacks-ins : (k : ℕ) → (not (has_node_in c y (is_enter k)) || not (has_node_in c n (is_enter k))) ≡
+      (not (has_place c (Ins y) k) || not (has_place c (Ins n) k))
+  lacks-ins k = ap (λ b. not b || not (has_node_in c n (is_enter k))) (enters-place c y k)
+      ∙ ap (λ b. not (has_place c (Ins y) k) || not b) (enters-place c n k)
 
   -- or an `out`
-  lacks-outs : (k : ℕ) → (not (has_node_in c y (is_leave k)) || not (has_node_in c n (is_leave k))) ≡ (not (has_place c (Outs y) k) || not (has_place c (Outs n) k))
-  lacks-outs k = ap (λ b. not b || not (has_node_in c n (is_leave k))) (leaves-place c y k) ∙ ap (λ b. not (has_place c (Outs y) k) || not b) (leaves-place c n k)
+  lacks-outs : (k : ℕ) → (not (has_node_in c y (is_leave k)) || not (has_node_in c n (is_leave k))) ≡
+      (not (has_place c (Outs y) k) || not (has_place c (Outs n) k))
+  lacks-outs k = ap (λ b. not b || not (has_node_in c n (is_leave k))) (leaves-place c y k)
+      ∙ ap (λ b. not (has_place c (Outs y) k) || not b) (leaves-place c n k)
 
   -- a node that a branch lacks a place for
-  lacks-side : (z : ℕ) → In z (node_numbers c) → (m : Kind) → kind_at c z ≡ m → lacks_in_branches c d y n m ≡ true → any_of (branches_lack_at c d y n) (below 64) ≡ true
+  lacks-side : (z : ℕ) → In z (node_numbers c) → (m : Kind) → kind_at c z ≡ m → lacks_in_branches c d y n m ≡ true
+      → any_of (branches_lack_at c d y n) (below 64) ≡ true
   lacks-side z i (Switch e k a) q h =
       let s = both-true (e == d) _ h in
       let has = in-any (stands_at c (Switches d) k) (node_numbers c) z i (ap (is_switch d k) q ∙ true-both (e == d) (k == k) s.0 (self-eq k)) in
@@ -112,17 +119,21 @@ module _ (c : Code) (d y n : ℕ) (low : (i : Interface) (k : ℕ) → has_place
   lacks-side z i other q h = absurd (true≢false (sym h))
 
   -- a switch of a place that a branch lacks
-  switch-lacks : (k : ℕ) (m : Kind) → is_switch d k m ≡ true → (not (has_place c (Ins y) k) || not (has_place c (Ins n) k)) ≡ true → lacks_in_branches c d y n m ≡ true
+  switch-lacks : (k : ℕ) (m : Kind) → is_switch d k m ≡ true → (not (has_place c (Ins y) k) || not (has_place c (Ins n) k)) ≡ true
+      → lacks_in_branches c d y n m ≡ true
   switch-lacks k (Switch e j a) q h =
       let s = both-true (e == d) (j == k) q in
-      true-both (e == d) _ s.0 (subst (λ z. (not (has_node_in c y (is_enter z)) || not (has_node_in c n (is_enter z))) ≡ true) (sym (number-eq j k s.1)) (lacks-ins k ∙ h))
+      true-both (e == d) _ s.0 (subst (λ z. (not (has_node_in c y (is_enter z)) || not (has_node_in c n (is_enter z))) ≡ true) (sym (number-eq j k s.1))
+      (lacks-ins k ∙ h))
   switch-lacks k other q h = absurd (true≢false (sym q))
 
   -- a merge
-  merge-lacks : (k : ℕ) (m : Kind) → is_merge d k m ≡ true → (not (has_place c (Outs y) k) || not (has_place c (Outs n) k)) ≡ true → lacks_in_branches c d y n m ≡ true
+  merge-lacks : (k : ℕ) (m : Kind) → is_merge d k m ≡ true → (not (has_place c (Outs y) k) || not (has_place c (Outs n) k)) ≡ true
+      → lacks_in_branches c d y n m ≡ true
   merge-lacks k (Merge e j) q h =
       let s = both-true (e == d) (j == k) q in
-      true-both (e == d) _ s.0 (subst (λ z. (not (has_node_in c y (is_leave z)) || not (has_node_in c n (is_leave z))) ≡ true) (sym (number-eq j k s.1)) (lacks-outs k ∙ h))
+      true-both (e == d) _ s.0 (subst (λ z. (not (has_node_in c y (is_leave z)) || not (has_node_in c n (is_leave z))) ≡ true) (sym (number-eq j k s.1))
+      (lacks-outs k ∙ h))
   merge-lacks k other q h = absurd (true≢false (sym q))
 
   -- a place that a branch lacks is that of a node

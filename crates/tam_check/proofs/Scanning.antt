@@ -1,5 +1,6 @@
 -- Tests of the numbers below n, one by one; and of lists, by tests that say the same or over what is left of them.
-use Rattle.std.proofs.Common.{◌≡◌, ℕ, ◌+◌, ◌<◌, Bool, true, false, not, ◌&&◌, ◌||◌, List, [], ◌∷◌, ◌++◌, filter, refl, sym, ap, ◌∙◌, arith, inl, inr, true≢false}
+use Rattle.std.proofs.Common.{◌≡◌, ℕ, ◌+◌, ◌<◌, Bool, true, false, not, ◌&&◌, ◌||◌, List, [], ◌∷◌, ◌++◌, filter, refl, sym, ap, ◌∙◌, arith, inl, inr}
+use Rattle.std.proofs.Common.{true≢false}
 use Rattle.tam_word.specs.Lists.{below, any_of, all_of}
 use Rattle.tam_word.proofs.Members.{In, in-below, below-in, in-any, any-in, all-in, in-all}
 use Rattle.tam_word.proofs.Each.{last-or_before}

@@ -1,5 +1,6 @@
 -- A table of the first n nodes becomes one of n + 1.
-use Rattle.std.proofs.Common.{◌≡◌, ◌≢◌, ℕ, zero, suc, ◌+◌, ◌<◌, Bool, true, false, ◌&&◌, ◌||◌, ◌==◌, nat_lt, List, [], ◌∷◌, Some, None, slice_get, slice_set, length, refl, sym, ap, ◌∙◌, subst, arith, true≢false}
+use Rattle.std.proofs.Common.{◌≡◌, ◌≢◌, ℕ, zero, suc, ◌+◌, ◌<◌, Bool, true, false, ◌&&◌, ◌||◌, ◌==◌, nat_lt, List, [], ◌∷◌, Some, None, slice_get}
+use Rattle.std.proofs.Common.{slice_set, length, refl, sym, ap, ◌∙◌, subst, arith, true≢false}
 use Rattle.std.proofs.lemmas.List.{length-set}
 use Rattle.tam_word.specs.Lists.{below, any_of, all_of}
 use Rattle.tam_word.proofs.Tests.{number-eq, number-differs, differs-number, both-true, true-both, below-test, test-below}
@@ -56,11 +57,13 @@ module _ (c : Code) (n : ℕ) (i : Interface) (k : ℕ) (s : Seen) (shows : Show
 
   -- a place that some of n + 1 nodes have
   place-next : (b : Bool) → stands_at c i k n ≡ b → any_of (stands_at c i k) (below (n + 1)) ≡ (any_of (stands_at c i k) (below n) || b)
-  place-next b e = rw next (any-append (stands_at c i k) (below n) (n ∷ []) ∙ ap (λ t. any_of (stands_at c i k) (below n) || t) (any-of_one (stands_at c i k) n ∙ e))
+  place-next b e = rw next (any-append (stands_at c i k) (below n) (n ∷ [])
+      ∙ ap (λ t. any_of (stands_at c i k) (below n) || t) (any-of_one (stands_at c i k) n ∙ e))
 
   -- a depth of all of n + 1 nodes
   depth-next : (d : ℕ) (b : Bool) → agrees c i k d n ≡ b → all_of (agrees c i k d) (below (n + 1)) ≡ (all_of (agrees c i k d) (below n) && b)
-  depth-next d b e = rw next (all-append_test (agrees c i k d) (below n) (n ∷ []) ∙ ap (λ t. all_of (agrees c i k d) (below n) && t) (all-of_one (agrees c i k d) n ∙ e))
+  depth-next d b e = rw next (all-append_test (agrees c i k d) (below n) (n ∷ [])
+      ∙ ap (λ t. all_of (agrees c i k d) (below n) && t) (all-of_one (agrees c i k d) n ∙ e))
 
   -- a node of another place
   shows-other : stands_at c i k n ≡ false → Shows c (n + 1) i k s
@@ -137,17 +140,22 @@ module _ (c : Code) (n interfaces : ℕ) (table : List Seen) (is : IsTable c n i
         here : key j p < length table
         here = omega (arith, low, within, is.len)
 
-        go : (i : Interface) (k : ℕ) → k < 64 → number i < interfaces → (b : Bool) → (key j p == key i k) ≡ b → Shows c (n + 1) i k (entry (slice_set table (key j p) given) i k)
+        go : (i : Interface) (k : ℕ) → k < 64 → number i < interfaces → (b : Bool) → (key j p == key i k) ≡ b
+            → Shows c (n + 1) i k (entry (slice_set table (key j p) given) i k)
         go i k l m true e =
             let same = number-eq (key j p) (key i k) e in
-            let old : entry table j p ≡ entry table i k = entry-low table j p low ∙ (ap (λ z. or_nothing (slice_get table z)) same ∙ sym (entry-low table i k l)) in
+            let old : entry table j p ≡ entry table i k = entry-low table j p low
+            ∙ (ap (λ z. or_nothing (slice_get table z)) same ∙ sym (entry-low table i k l)) in
             let new : entry (slice_set table (key j p) given) i k ≡ given =
-            entry-low (slice_set table (key j p) given) i k l ∙ (ap (λ z. or_nothing (slice_get (slice_set table (key j p) given) z)) (sym same) ∙ ap or_nothing (get-set table (key j p) given here)) in
+            entry-low (slice_set table (key j p) given) i k l ∙
+            (ap (λ z. or_nothing (slice_get (slice_set table (key j p) given) z)) (sym same) ∙ ap or_nothing (get-set table (key j p) given here)) in
             let stands : stands_at c i k n ≡ true = stands-at i k ∙ (same-key j i p k low l ∙ e) in
-            subst (Shows c (n + 1) i k) (ap (λ s. with_depth s (handed_depth c n)) (sym old) ∙ sym new) (shows-own c n i k (entry table i k) (is.each i k l m) stands)
+            subst (Shows c (n + 1) i k) (ap (λ s. with_depth s (handed_depth c n)) (sym old) ∙ sym new)
+            (shows-own c n i k (entry table i k) (is.each i k l m) stands)
         go i k l m false e =
             let new : entry (slice_set table (key j p) given) i k ≡ entry table i k =
-            entry-low (slice_set table (key j p) given) i k l ∙ (ap or_nothing (get-other table (key j p) (key i k) given (number-differs (key j p) (key i k) e)) ∙ sym (entry-low table i k l)) in
+            entry-low (slice_set table (key j p) given) i k l ∙
+            (ap or_nothing (get-other table (key j p) (key i k) given (number-differs (key j p) (key i k) e)) ∙ sym (entry-low table i k l)) in
             let stands : stands_at c i k n ≡ false = stands-at i k ∙ (same-key j i p k low l ∙ e) in
             subst (Shows c (n + 1) i k) (sym new) (shows-other c n i k (entry table i k) (is.each i k l m) stands)
 
@@ -158,13 +166,15 @@ module _ (c : Code) (n interfaces : ℕ) (table : List Seen) (is : IsTable c n i
       each = λ i k l m. shows-other c n i k (entry table i k) (is.each i k l m) (stands-at i k ∙ differs i k l m (same_side j i && (p == k)) refl);
     }
       where
-        differs : (i : Interface) (k : ℕ) → k < 64 → number i < interfaces → (b : Bool) → (same_side j i && (p == k)) ≡ b → (same_side j i && (p == k)) ≡ false
+        differs : (i : Interface) (k : ℕ) → k < 64 → number i < interfaces → (b : Bool) → (same_side j i && (p == k)) ≡ b
+            → (same_side j i && (p == k)) ≡ false
         differs i k l m false h = h
         differs i k l m true h =
             let s = both-true (same_side j i) (p == k) h in
             let place = number-eq p k s.1 in
             let side = same-number j i s.0 in
-            absurd (true≢false (sym (true-both (nat_lt p 64) (nat_lt (number j) interfaces) (below-test p 64 (omega (arith, place, l))) (below-test (number j) interfaces (omega (arith, side, m)))) ∙ e))
+            absurd (true≢false (sym (true-both (nat_lt p 64) (nat_lt (number j) interfaces) (below-test p 64 (omega (arith, place, l)))
+            (below-test (number j) interfaces (omega (arith, side, m)))) ∙ e))
 
     -- a node of an interface
     pub table-added : IsTable c (n + 1) interfaces (replaced table interfaces j p given)

@@ -6,7 +6,8 @@ use Rattle.tam_graph.specs.declared.kind.Kind.{Kind}
 use Rattle.tam_graph.specs.declared.kind.Kind.TheVariants.{Param, Const, Op as Operate, Call, Arg, Ret, Give, Alloc, Fetch, Cond, Switch, Merge, Enter, Leave}
 use Rattle.tam_graph.specs.declared.node.Node.{Node}
 use Rattle.tam_graph.specs.declared.place.Place.TheVariants.{File, Node as At}
-use Rattle.tam_graph.specs.declared.check_cause.CheckCause.TheVariants.{NoMain, WrongBlock, PlaceTwice, PlaceRange, PlaceMissing, DepthMismatch, MainType, Cycle}
+use Rattle.tam_graph.specs.declared.check_cause.CheckCause.TheVariants.{NoMain, WrongBlock, PlaceTwice, PlaceRange, PlaceMissing, DepthMismatch}
+use Rattle.tam_graph.specs.declared.check_cause.CheckCause.TheVariants.{MainType, Cycle}
 use Rattle.tam_graph.specs.Graphs.{Graph, main_name}
 use Rattle.tam_graph.specs.ExampleGraphs.{plain, deep, loop_graph, back_graph, seq_graph}
 use Rattle.tam_check.specs.FirstFault.{first_fault}
@@ -17,7 +18,15 @@ simple ks = record { codes = record { name = main_name; nodes = map (λ k. deep 
 
 -- a graph of one code whose node 1 is a cond over blocks 1 and 2
 abbrev pub branching : List Node → Graph
-branching nodes = record { codes = record { name = main_name; nodes = plain 0 (Const 1) ∷ plain 0 (Cond 0 1 2) ∷ nodes; owners = None ∷ Some 1 ∷ Some 1 ∷ [] } ∷ []; main = 0 }
+branching nodes = record {
+  codes = record {
+    name = main_name;
+    nodes = plain 0 (Const 1) ∷ plain 0 (Cond 0 1 2) ∷ nodes;
+    owners = None ∷ Some 1 ∷ Some 1
+        ∷ [];
+  } ∷ [];
+  main = 0;
+}
 
 -- a graph of `main` and a code that it calls
 abbrev pub calling : List Kind → List (ℕ × Kind) → Graph
@@ -42,13 +51,15 @@ wrong_blocks : map first_fault (branching (plain 1 (Param 0) ∷ []) ∷ branchi
 wrong_blocks = refl
 
 -- the later of two nodes of one place is told; the same place of another interface is none
-taken_places : map first_fault (simple ((0, Param 0) ∷ (0, Give 0 0) ∷ (0, Param 0) ∷ []) ∷ calling (Const 7 ∷ Call 1 ∷ Arg 1 0 0 ∷ Arg 1 0 0 ∷ []) ((0, Param 0) ∷ [])
+taken_places : map first_fault (simple ((0, Param 0) ∷ (0, Give 0 0) ∷ (0, Param 0) ∷ []) ∷ calling (Const 7 ∷ Call 1 ∷ Arg 1 0 0 ∷ Arg 1 0 0 ∷ [])
+    ((0, Param 0) ∷ [])
     ∷ branching (plain 1 (Enter 0) ∷ plain 2 (Enter 0) ∷ plain 2 (Enter 0) ∷ plain 0 (Switch 1 0 0) ∷ []) ∷ [])
     ≡ Some (At 0 2, PlaceTwice) ∷ Some (At 0 3, PlaceTwice) ∷ Some (At 0 4, PlaceTwice) ∷ []
 taken_places = refl
 
 -- an `arg` by the params of its callee and not by its results, an `in` by the switches of its cond
-far_places : map first_fault (simple ((0, Param 1) ∷ []) ∷ calling (Const 7 ∷ Call 1 ∷ Arg 1 1 0 ∷ Ret 1 0 ∷ Ret 1 1 ∷ []) ((0, Const 1) ∷ (0, Give 0 0) ∷ (0, Give 1 0) ∷ [])
+far_places : map first_fault (simple ((0, Param 1) ∷ []) ∷ calling (Const 7 ∷ Call 1 ∷ Arg 1 1 0 ∷ Ret 1 0 ∷ Ret 1 1 ∷ [])
+    ((0, Const 1) ∷ (0, Give 0 0) ∷ (0, Give 1 0) ∷ [])
     ∷ branching (plain 1 (Enter 0) ∷ []) ∷ [])
     ≡ Some (At 0 0, PlaceRange) ∷ Some (At 0 2, PlaceRange) ∷ Some (At 0 2, PlaceRange) ∷ []
 far_places = refl
@@ -61,7 +72,8 @@ lacking = refl
 
 -- an operand that is an array, an `arg` for an array, an `out` for a merge that is one
 depths : map first_fault (simple ((0, Const 1) ∷ (1, Alloc 0) ∷ (0, Operate Add 1 0) ∷ []) ∷ calling (Const 7 ∷ Call 1 ∷ Arg 1 0 0 ∷ []) ((1, Param 0) ∷ [])
-    ∷ branching (plain 1 (Leave 0 2) ∷ []) ∷ branching (plain 1 (Const 3) ∷ plain 1 (Leave 0 2) ∷ plain 2 (Const 3) ∷ plain 2 (Leave 0 4) ∷ deep 1 (Merge 1 0) ∷ []) ∷ [])
+    ∷ branching (plain 1 (Leave 0 2) ∷ []) ∷ branching
+    (plain 1 (Const 3) ∷ plain 1 (Leave 0 2) ∷ plain 2 (Const 3) ∷ plain 2 (Leave 0 4) ∷ deep 1 (Merge 1 0) ∷ []) ∷ [])
     ≡ Some (At 0 2, DepthMismatch) ∷ Some (At 0 2, DepthMismatch) ∷ Some (At 0 2, PlaceRange) ∷ Some (At 0 3, DepthMismatch) ∷ []
 depths = refl
 
@@ -71,7 +83,8 @@ main_types : map first_fault (simple ((1, Param 0) ∷ []) ∷ simple ((0, Const
 main_types = refl
 
 -- a cycle through two nodes stands at the lower; what is behind a cycle has none; an ask and its answer close none
-cycles : map first_fault (simple ((0, Operate Add 1 1) ∷ (0, Operate Add 0 0) ∷ (0, Give 0 0) ∷ []) ∷ simple ((0, Operate Add 1 1) ∷ (0, Operate Add 1 1) ∷ [])
+cycles : map first_fault (simple ((0, Operate Add 1 1) ∷ (0, Operate Add 0 0) ∷ (0, Give 0 0) ∷ []) ∷ simple
+    ((0, Operate Add 1 1) ∷ (0, Operate Add 1 1) ∷ [])
     ∷ simple ((0, Const 1) ∷ (1, Alloc 0) ∷ (0, Fetch 1 3) ∷ (0, Operate Add 2 2) ∷ (0, Give 0 3) ∷ []) ∷ [])
     ≡ Some (At 0 0, Cycle) ∷ Some (At 0 1, Cycle) ∷ None ∷ []
 cycles = refl

@@ -1,6 +1,7 @@
 -- What feeds a node within its block, ranks that rise along it, and what a node reaches by it.
 -- The rule in words: docs/FORMATS.md, "What is accepted".
-use Rattle.std.specs.Prelude.{ℕ, zero, suc, ◌≡◌, ◌<◌, ◌+◌, Bool, true, false, not, ◌&&◌, ◌||◌, ◌==◌, nat_lt, List, [], ◌∷◌, Option, Some, None, slice_get, length}
+use Rattle.std.specs.Prelude.{ℕ, zero, suc, ◌≡◌, ◌<◌, ◌+◌, Bool, true, false, not, ◌&&◌, ◌||◌, ◌==◌, nat_lt, List, [], ◌∷◌, Option, Some, None}
+use Rattle.std.specs.Prelude.{slice_get, length}
 use Rattle.tam_word.specs.Lists.{any_of, all_of}
 use Rattle.tam_graph.specs.Graphs.{Code, kind_at, block_at, node_numbers, operands_of, is_split, one_or_none}
 use Rattle.tam_graph.specs.Edges.{Edges, reaches, reaches_itself}

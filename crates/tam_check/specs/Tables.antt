@@ -1,5 +1,6 @@
 -- Tables of a code: what its nodes hand over at each place of each interface, and the sizes of the interfaces.
-use Rattle.std.specs.Prelude.{ℕ, ◌≡◌, ◌<◌, ◌+◌, ◌*◌, Bool, true, false, ◌&&◌, ◌==◌, nat_lt, Vec, List, [], Option, Some, None, slice_get, slice_index_or, slice_set, length, count_by}
+use Rattle.std.specs.Prelude.{ℕ, ◌≡◌, ◌<◌, ◌+◌, ◌*◌, Bool, true, false, ◌&&◌, ◌==◌, nat_lt, Vec, List, [], Option, Some, None, slice_get}
+use Rattle.std.specs.Prelude.{slice_index_or, slice_set, length, count_by}
 use Rattle.std.specs.Global.{Global}
 use Rattle.tam_word.specs.Lists.{below, all_of}
 use Rattle.tam_graph.specs.Graphs.{Code, Graph, code_of, kind_at, block_at, node_numbers}

@@ -16,7 +16,8 @@ returns-then-branches_lack_at c =
     let found = any-found (branches_lack_at tables.code.now c.args.cond c.args.yes c.args.no) 64 c.loop-place.place c.loop-place-test.true
     (sym c.branches_lack_at.ensures.value ∙ c.if-branches_lack_at.true) in
     record {
-      value = sym (branches-lack tables.code.now c.args.cond c.args.yes c.args.no (λ i k. low-place tables.code.now tables.seen.items i k (tables.tables.places i k).place) ∙ found);
+      value = sym (branches-lack tables.code.now c.args.cond c.args.yes c.args.no
+          (λ i k. low-place tables.code.now tables.seen.items i k (tables.tables.places i k).place) ∙ found);
     }
 
 pub returns : goal.returns
@@ -25,5 +26,6 @@ returns c =
     let same : c.loop-place.place ≡ 64 = omega (arith, c.loop-place-test.false, c.loop-place.auto.place-end) in
     let none : any_of (branches_lack_at tables.code.now c.args.cond c.args.yes c.args.no) (below 64) ≡ false = rw same at c.loop-place.invariant in
     record {
-      value = sym (branches-lack tables.code.now c.args.cond c.args.yes c.args.no (λ i k. low-place tables.code.now tables.seen.items i k (tables.tables.places i k).place) ∙ none);
+      value = sym (branches-lack tables.code.now c.args.cond c.args.yes c.args.no
+          (λ i k. low-place tables.code.now tables.seen.items i k (tables.tables.places i k).place) ∙ none);
     }

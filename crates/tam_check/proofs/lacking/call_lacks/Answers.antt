@@ -17,7 +17,8 @@ returns-then-call_lacks_at c =
     let found = any-found (call_lacks_at c.args.tables.now.code.now c.args.call callee.code.now) 64 c.loop-place.place c.loop-place-test.true
     (sym c.call_lacks_at.ensures.value ∙ c.if-call_lacks_at.true) in
     record {
-      value = sym (call-lacks c.args.tables.now.code.now c.args.call callee.code.now (λ k. low-place callee.code.now callee.seen.now Params k (callee.border.params k).place)
+      value = sym (call-lacks c.args.tables.now.code.now c.args.call callee.code.now
+          (λ k. low-place callee.code.now callee.seen.now Params k (callee.border.params k).place)
           (λ k. low-place callee.code.now callee.seen.now Results k (callee.border.results k).place) ∙ found);
     }
 
@@ -27,6 +28,7 @@ returns c =
     let same : c.loop-place.place ≡ 64 = omega (arith, c.loop-place-test.false, c.loop-place.auto.place-end) in
     let none : any_of (call_lacks_at c.args.tables.now.code.now c.args.call callee.code.now) (below 64) ≡ false = rw same at c.loop-place.invariant in
     record {
-      value = sym (call-lacks c.args.tables.now.code.now c.args.call callee.code.now (λ k. low-place callee.code.now callee.seen.now Params k (callee.border.params k).place)
+      value = sym (call-lacks c.args.tables.now.code.now c.args.call callee.code.now
+          (λ k. low-place callee.code.now callee.seen.now Params k (callee.border.params k).place)
           (λ k. low-place callee.code.now callee.seen.now Results k (callee.border.results k).place) ∙ none);
     }

@@ -20,5 +20,6 @@ returns-in-Some c =
     let near = near-place c.args.code.now c.block_at.ensures.of_text c.args.x c.requires.in_range c.in-Some.interface c.in-Some.place stands in
     let shows = (c.requires.earlier.each c.in-Some.interface c.in-Some.place near.0 near.1).place in
     record {
-      value = c.is_something.ensures.value ∙ (ap is_something c.look.ensures.value ∙ (shows ∙ sym (twice-below c.args.code.now c.args.x c.in-Some.interface c.in-Some.place own)));
+      value = c.is_something.ensures.value ∙ (ap is_something c.look.ensures.value
+          ∙ (shows ∙ sym (twice-below c.args.code.now c.args.x c.in-Some.interface c.in-Some.place own)));
     }

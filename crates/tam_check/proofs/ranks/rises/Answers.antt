@@ -5,7 +5,8 @@ use Rattle.tam_check.proofs.Rising.{rising-none}
 use Rattle.tam_check.proofs.ranks.rises.Goals as goal
 
 pub loop-x-preserved : goal.loop-x-preserved
-loop-x-preserved c = all-next (rises_to c.args.code.now c.args.ranks.now) c.loop-x.x c.loop-x.invariant (sym c.rises_to.ensures.value ∙ c.if-not-rises_to.false)
+loop-x-preserved c = all-next (rises_to c.args.code.now c.args.ranks.now) c.loop-x.x c.loop-x.invariant
+    (sym c.rises_to.ensures.value ∙ c.if-not-rises_to.false)
 
 pub returns-then-not-rises_to-clause-value : goal.returns-then-not-rises_to-clause-value
 returns-then-not-rises_to-clause-value c =

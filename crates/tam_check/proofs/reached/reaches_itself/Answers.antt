@@ -7,5 +7,6 @@ pub returns : goal.returns
 returns c =
     let marking : IsMarking c.args.code.now c.args.block c.args.x c.loop-grew.marks.items false = rw c.loop-grew-test.false at c.loop-grew.invariant in
     record {
-      value = c.is_marked.ensures.value ∙ (ap (λ marks. is_marked marks c.args.x) c.deref.ensures.value ∙ marked-itself c.args.code.now c.args.block c.args.x c.loop-grew.marks.items marking);
+      value = c.is_marked.ensures.value ∙ (ap (λ marks. is_marked marks c.args.x) c.deref.ensures.value
+          ∙ marked-itself c.args.code.now c.args.block c.args.x c.loop-grew.marks.items marking);
     }

@@ -18,7 +18,8 @@ returns-then-number-interfaces c =
     rw (← c.block_at.ensures.value, ← c.kind_at.ensures.value) (sym c.of.ensures.value ∙ c.in-Some.is) in
     let is = c.number-number.ensures.value in
     record {
-      after = rw is (sizes-added c.args.code.now c.args.x c.args.interfaces c.args.sizes.now c.requires.before c.in-Some.interface c.in-Some.field-0-1 own (rw (← is) c.if-number-interfaces.true));
+      after = rw is (sizes-added c.args.code.now c.args.x c.args.interfaces c.args.sizes.now c.requires.before c.in-Some.interface c.in-Some.field-0-1 own
+          (rw (← is) c.if-number-interfaces.true));
     }
 
 pub returns-else-number-interfaces : goal.returns-else-number-interfaces
@@ -26,7 +27,10 @@ returns-else-number-interfaces c =
     let own : interface_of (block_at c.args.code.now c.args.x) (kind_at c.args.code.now c.args.x) ≡ Some (c.in-Some.interface, c.in-Some.field-0-1) =
     rw (← c.block_at.ensures.value, ← c.kind_at.ensures.value) (sym c.of.ensures.value ∙ c.in-Some.is) in
     let is = c.number-number.ensures.value in
-    record { after = sizes-untold c.args.code.now c.args.x c.args.interfaces c.args.sizes.now c.requires.before c.in-Some.interface c.in-Some.field-0-1 own (rw (← is) c.if-number-interfaces.false) }
+    record {
+      after = sizes-untold c.args.code.now c.args.x c.args.interfaces c.args.sizes.now c.requires.before c.in-Some.interface c.in-Some.field-0-1 own
+          (rw (← is) c.if-number-interfaces.false);
+    }
 
 pub returns-in_default : goal.returns-in_default
 returns-in_default c =

@@ -9,7 +9,8 @@ invariant_of-result c =
     let of_text = c.interface_count-interfaces.ensures.of_text in
     let all = c.interface_count-interfaces.ensures.value in
     let seen : IsTable code (length code.nodes) (8 * (length code.nodes + length code.owners)) c.in_ok-seen.seen.items = rw all at c.in_ok-seen.ensures.value in
-    let sizes : AreSizes code (length code.nodes) (8 * (length code.nodes + length code.owners)) c.in_ok-sizes.sizes.items = rw all at c.in_ok-sizes.ensures.value in
+    let sizes : AreSizes code (length code.nodes) (8 *
+    (length code.nodes + length code.owners)) c.in_ok-sizes.sizes.items = rw all at c.in_ok-sizes.ensures.value in
     record {
       tables = record {
         places = λ i k. shows-all code of_text _ c.in_ok-seen.seen.items seen i (λ x p l h. (near-place code of_text x l i p h).1) k;

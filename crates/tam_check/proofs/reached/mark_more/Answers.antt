@@ -8,9 +8,9 @@ loop-y-preserved c =
     let low : c.loop-y.y < length c.args.code.now.nodes = omega (arith, c.loop-y-test.true, c.node_count-y-end.ensures.value) in
     elim c.if-is_new.branch [
       | then-is_new w ↦
-          rw (w.marks-is, w.grew-is) (pass-marked c.args.code.now c.args.block c.args.from c.args.marks.now c.loop-y.marks c.loop-y.y c.loop-y.grew c.loop-y.invariant
-          low (sym c.is_new.ensures.value ∙ w.if-is_new.true))
+          rw (w.marks-is, w.grew-is) (pass-marked c.args.code.now c.args.block c.args.from c.args.marks.now c.loop-y.marks c.loop-y.y c.loop-y.grew
+          c.loop-y.invariant low (sym c.is_new.ensures.value ∙ w.if-is_new.true))
       | else-is_new w ↦
-          rw (w.marks-is, w.grew-is) (pass-left c.args.code.now c.args.block c.args.from c.args.marks.now c.loop-y.marks c.loop-y.y c.loop-y.grew c.loop-y.invariant
-          (sym c.is_new.ensures.value ∙ w.if-is_new.false))
+          rw (w.marks-is, w.grew-is) (pass-left c.args.code.now c.args.block c.args.from c.args.marks.now c.loop-y.marks c.loop-y.y c.loop-y.grew
+          c.loop-y.invariant (sym c.is_new.ensures.value ∙ w.if-is_new.false))
     ]

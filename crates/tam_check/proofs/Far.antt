@@ -17,7 +17,7 @@ use Rattle.tam_check.specs.declared.interface.Interface.{Interface}
 use Rattle.tam_check.specs.declared.seen.Seen.{Seen}
 use Rattle.tam_check.specs.declared.seen.Seen.TheVariants.{Nothing}
 use Rattle.tam_check.specs.Interfaces.{interface_of, stands_at, has_place, agrees}
-use Rattle.tam_check.specs.Tables.{sort_of, owner_number, number, key, or_nothing, entry, same_side, belongs_to, belongs_at, size_of, size_in, Shows}
+use Rattle.tam_check.specs.Tables.{sort_of, owner_number, number, joined, row_entry, entry, same_side, belongs_to, belongs_at, size_of, size_in, Shows}
 use Rattle.tam_check.specs.Tables.{IsTable, AreSizes}
 use Rattle.tam_check.proofs.Keys.{own_stands, stands-own, sort-below}
 
@@ -115,18 +115,18 @@ module _ (c : Code) (code : IsCode c) where
       no-node d x l false e = rw e refl
 
   -- a table that has all interfaces of this sort tells of each place
-  pub shows-all : (interfaces : ℕ) (table : List Seen) → IsTable c (length c.nodes) interfaces table → (i : Interface)
-      → ((x k : ℕ) → x < length c.nodes → stands_at c i k x ≡ true → number i < interfaces) → (k : ℕ) → Shows c (length c.nodes) i k (entry table i k)
-  shows-all interfaces table is i within k = go (nat_lt k 64) refl (nat_lt (number i) interfaces) refl
+  pub shows-all : (interfaces : ℕ) (rows : List (Option ℕ)) (seen : List Seen) → IsTable c (length c.nodes) interfaces rows seen → (i : Interface)
+      → ((x k : ℕ) → x < length c.nodes → stands_at c i k x ≡ true → number i < interfaces) → (k : ℕ) → Shows c (length c.nodes) i k (entry rows seen i k)
+  shows-all interfaces rows seen is i within k = go (nat_lt k 64) refl (nat_lt (number i) interfaces) refl
     where
-      go : (s : Bool) → nat_lt k 64 ≡ s → (t : Bool) → nat_lt (number i) interfaces ≡ t → Shows c (length c.nodes) i k (entry table i k)
+      go : (s : Bool) → nat_lt k 64 ≡ s → (t : Bool) → nat_lt (number i) interfaces ≡ t → Shows c (length c.nodes) i k (entry rows seen i k)
       go false e t f =
-          let told : entry table i k ≡ Nothing = rw (entry, e) refl in
+          let told : entry rows seen i k ≡ Nothing = rw (entry, e) refl in
           subst (Shows c (length c.nodes) i k) (sym told) (shows-nothing i k (λ x l h. true≢false (sym (below-test k 64 (near-place x l i k h).0) ∙ e)))
       go true e true f = is.each i k (test-below k 64 e) (test-below (number i) interfaces f)
       go true e false f =
-          let past : length table ≤ key i k = let long = is.len in grind (arith, tests) in
-          let told : entry table i k ≡ Nothing = rw (entry, e) (ap or_nothing (slice_get_past table (key i k) past)) in
+          let past : length rows ≤ number i = let long = is.len in grind (arith, tests) in
+          let told : entry rows seen i k ≡ Nothing = rw (entry, e) (ap (λ o. row_entry seen (joined o) k) (slice_get_past rows (number i) past)) in
           subst (Shows c (length c.nodes) i k) (sym told) (shows-nothing i k
           (λ x l h. true≢false (sym (below-test (number i) interfaces (within x k l h)) ∙ f)))
 

@@ -3,10 +3,10 @@ use Rattle.std.proofs.Common.{◌≡◌, ℕ, Bool, true, false, not, ◌&&◌, 
 use Rattle.tam_word.specs.Lists.{below, any_of, all_of}
 use Rattle.tam_graph.specs.declared.kind.Kind.{Kind}
 use Rattle.tam_graph.specs.declared.kind.Kind.TheVariants.{Param, Arg, Ret, Give, Switch, Merge, Enter, Leave}
-use Rattle.tam_graph.specs.Graphs.{Code, kind_at, block_at, depth_at, node_numbers, is_param, is_give, is_merge, is_enter, is_leave}
-use Rattle.tam_graph.specs.Accepted.{same_place, is_place_twice, has_node_in, all_depths, gives_depth, enters_depth}
+use Rattle.tam_graph.specs.Graphs.{Code, kind_at, block_at, depth_at, node_numbers, is_param, is_merge, is_enter, is_leave}
+use Rattle.tam_graph.specs.Accepted.{same_place, is_place_twice, has_node_in, all_depths, enters_depth}
 use Rattle.tam_check.specs.declared.interface.Interface.{Interface}
-use Rattle.tam_check.specs.declared.interface.Interface.TheVariants.{Params, Results, Merges, Ins, Outs}
+use Rattle.tam_check.specs.declared.interface.Interface.TheVariants.{Params, Merges, Ins, Outs}
 use Rattle.tam_check.specs.Interfaces.{stands, interface_of, has_place_below, has_place, depth_of_kind, all_agree}
 use Rattle.tam_check.proofs.Scanning.{any-same, all-same, any-filter, all-filter, filter-filter}
 

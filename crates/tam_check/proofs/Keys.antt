@@ -1,4 +1,4 @@
--- Where a table tells of a place: each place below 64 of each interface has its own entry.
+-- Which interface a node is of, and that interfaces differ where their numbers do.
 use Rattle.std.proofs.Common.{◌≡◌, ℕ, ◌+◌, ◌*◌, ◌<◌, Bool, true, false, ◌&&◌, ◌==◌, Option, Some, None, refl, sym, ◌∙◌, arith}
 use Rattle.tam_word.proofs.Tests.{number-eq, eq-number, number-differs, both-true, true-both}
 use Rattle.tam_graph.specs.declared.kind.Kind.{Kind}
@@ -6,7 +6,7 @@ use Rattle.tam_graph.specs.declared.kind.Kind.TheVariants.{Param, Arg, Ret, Give
 use Rattle.tam_check.specs.declared.interface.Interface.{Interface}
 use Rattle.tam_check.specs.declared.interface.Interface.TheVariants.{Params, Results, Args, Rets, Switches, Merges, Ins, Outs}
 use Rattle.tam_check.specs.Interfaces.{stands, interface_of}
-use Rattle.tam_check.specs.Tables.{sort_of, owner_number, number, key, same_side}
+use Rattle.tam_check.specs.Tables.{sort_of, owner_number, number, same_side}
 
 -- a node of one interface has a place of another where they are one and the places are
 abbrev pub own_stands : Interface → ℕ → Option (Interface × ℕ) → Bool
@@ -48,31 +48,9 @@ sort-below (Merges d) = omega arith
 sort-below (Ins b) = omega arith
 sort-below (Outs b) = omega arith
 
--- the parts of an entry's place
-parts : (x y c d p k : ℕ) → c < 8 → d < 8 → p < 64 → k < 64 → 64 * (8 * x + c) + p ≡ 64 * (8 * y + d) + k → (c ≡ d) × (x ≡ y) × (p ≡ k)
-parts x y c d p k a b l m e = (omega arith, omega arith, omega arith)
-
--- two places are one where their entries are
-pub same-key : (j i : Interface) (p k : ℕ) → p < 64 → k < 64 → (same_side j i && (p == k)) ≡ (key j p == key i k)
-same-key j i p k l m = go (key j p == key i k) refl
-  where
-    go : (b : Bool) → (key j p == key i k) ≡ b → (same_side j i && (p == k)) ≡ (key j p == key i k)
-    go true e =
-        let s = parts (owner_number j) (owner_number i) (sort_of j) (sort_of i) p k (sort-below j) (sort-below i) l m (number-eq (key j p) (key i k) e) in
-        true-both (same_side j i) (p == k) (true-both (sort_of j == sort_of i) (owner_number j == owner_number i) (eq-number (sort_of j) (sort_of i) s.0)
-        (eq-number (owner_number j) (owner_number i) s.1)) (eq-number p k s.2)
-        ∙ sym e
-    go false e = differs (same_side j i && (p == k)) refl ∙ sym e
-      where
-        differs : (b : Bool) → (same_side j i && (p == k)) ≡ b → (same_side j i && (p == k)) ≡ false
-        differs false h = h
-        differs true h =
-            let s = both-true (same_side j i) (p == k) h in
-            let t = both-true (sort_of j == sort_of i) (owner_number j == owner_number i) s.0 in
-            let sorts = number-eq (sort_of j) (sort_of i) t.0 in
-            let owners = number-eq (owner_number j) (owner_number i) t.1 in
-            let places = number-eq p k s.1 in
-            absurd (number-differs (key j p) (key i k) e (omega (arith, sorts, owners, places)))
+-- the parts of a number
+parts : (x y c d : ℕ) → c < 8 → d < 8 → 8 * x + c ≡ 8 * y + d → (c ≡ d) × (x ≡ y)
+parts x y c d a b e = (omega arith, omega arith)
 
 -- what has one number as its number
 pub same-number : (j i : Interface) → same_side j i ≡ true → number j ≡ number i
@@ -88,8 +66,7 @@ same-side j i = go (number j == number i) refl
   where
     go : (b : Bool) → (number j == number i) ≡ b → same_side j i ≡ (number j == number i)
     go true e =
-        let s = parts (owner_number j) (owner_number i) (sort_of j) (sort_of i) 0 0 (sort-below j) (sort-below i) (omega arith) (omega arith)
-        (let f = number-eq (number j) (number i) e in omega (arith, f)) in
+        let s = parts (owner_number j) (owner_number i) (sort_of j) (sort_of i) (sort-below j) (sort-below i) (number-eq (number j) (number i) e) in
         true-both (sort_of j == sort_of i) (owner_number j == owner_number i) (eq-number (sort_of j) (sort_of i) s.0)
         (eq-number (owner_number j) (owner_number i) s.1) ∙ sym e
     go false e = differs (same_side j i) refl ∙ sym e

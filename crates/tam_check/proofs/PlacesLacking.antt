@@ -1,5 +1,5 @@
 -- An interface lacks a place where it lacks one of those below 64.
-use Rattle.std.proofs.Common.{◌≡◌, ℕ, ◌<◌, Bool, true, false, not, ◌&&◌, ◌||◌, ◌==◌, nat_lt, List, refl, sym, ap, ◌∙◌, subst, inl, inr, ◌⊎◌, true≢false}
+use Rattle.std.proofs.Common.{◌≡◌, ℕ, ◌<◌, Bool, true, false, not, ◌&&◌, ◌||◌, ◌==◌, nat_lt, List, Option, refl, sym, ap, ◌∙◌, subst, inl, inr, ◌⊎◌, true≢false}
 use Rattle.tam_word.specs.Lists.{below, any_of}
 use Rattle.tam_word.proofs.Tests.{number-eq, self-eq, both-true, true-both, test-below}
 use Rattle.tam_word.proofs.Members.{In, any-in, in-any, below-in}
@@ -15,12 +15,12 @@ use Rattle.tam_check.specs.Tables.{is_something, entry}
 use Rattle.tam_check.proofs.InterfaceTests.{enters-place, leaves-place}
 
 -- what a table tells of has a place below 64
-pub low-place : (c : Code) (table : List Seen) (i : Interface) (k : ℕ) → is_something (entry table i k) ≡ has_place c i k → has_place c i k ≡ true → k < 64
-low-place c table i k shows h = go (nat_lt k 64) refl
+pub low-place : (c : Code) (rows : List (Option ℕ)) (seen : List Seen) (i : Interface) (k : ℕ) → is_something (entry rows seen i k) ≡ has_place c i k → has_place c i k ≡ true → k < 64
+low-place c rows seen i k shows h = go (nat_lt k 64) refl
   where
     go : (b : Bool) → nat_lt k 64 ≡ b → k < 64
     go true e = test-below k 64 e
-    go false e = let told : is_something (entry table i k) ≡ false = rw (entry, e) refl in absurd (true≢false (sym h ∙ (sym shows ∙ told)))
+    go false e = let told : is_something (entry rows seen i k) ≡ false = rw (entry, e) refl in absurd (true≢false (sym h ∙ (sym shows ∙ told)))
 
 -- tests that hold together are one
 both-ways : (s t : Bool) → (s ≡ true → t ≡ true) → (t ≡ true → s ≡ true) → s ≡ t

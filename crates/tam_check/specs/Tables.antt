@@ -1,7 +1,7 @@
 -- Tables of a code: what its nodes hand over at each place of each interface, and the sizes of the interfaces.
-use Rattle.std.specs.Prelude.{ℕ, ◌≡◌, ◌<◌, ◌+◌, ◌*◌, Bool, true, false, ◌&&◌, ◌==◌, nat_lt, Vec, List, [], Option, Some, None, slice_get}
-use Rattle.std.specs.Prelude.{slice_index_or, slice_set, length, count_by}
-use Rattle.std.specs.Global.{Global}
+use Rattle.std.specs.Prelude.{ℕ, ◌≡◌, ◌<◌, ◌≤◌, ◌+◌, ◌*◌, ◌%◌, Bool, true, false, ◌&&◌, ◌==◌, nat_lt, List, [], Option, Some, None}
+use Rattle.std.specs.Prelude.{slice_get, slice_index_or, length, count_by}
+use Rattle.tam_check.specs.declared.table.Table.{Table}
 use Rattle.tam_word.specs.Lists.{below, all_of}
 use Rattle.tam_graph.specs.Graphs.{Code, Graph, code_of, kind_at, block_at, node_numbers}
 use Rattle.tam_check.specs.declared.interface.Interface.{Interface}
@@ -62,32 +62,41 @@ number i = 8 * owner_number i + sort_of i
 abbrev pub same_side : Interface → Interface → Bool
 same_side j i = (sort_of j == sort_of i) && (owner_number j == owner_number i)
 
--- where the table tells of a place below 64
-abbrev pub key : Interface → ℕ → ℕ
-key i k = 64 * number i + k
-
 -- an entry that is there
 abbrev pub or_nothing : Option Seen → Seen
 or_nothing None = Nothing
 or_nothing (Some s) = s
 
--- what the table tells of a place
-abbrev pub entry : List Seen → Interface → ℕ → Seen
-entry table i k = elim (nat_lt k 64) [ true ↦ or_nothing (slice_get table (key i k)) | false ↦ Nothing ]
+-- a row that is there
+abbrev pub joined : Option (Option ℕ) → Option ℕ
+joined None = None
+joined (Some r) = r
 
--- the table with what it tells of a place changed, where it tells of it
-abbrev pub replaced : List Seen → ℕ → Interface → ℕ → Seen → List Seen
-replaced table interfaces i k s = elim (nat_lt k 64 && nat_lt (number i) interfaces) [ true ↦ slice_set table (key i k) s | false ↦ table ]
+-- the row of an interface, by its number
+abbrev pub row_at : List (Option ℕ) → ℕ → Option ℕ
+row_at rows m = joined (slice_get rows m)
+
+-- what a row tells of a place below 64
+abbrev pub row_entry : List Seen → Option ℕ → ℕ → Seen
+row_entry seen None k = Nothing
+row_entry seen (Some r) k = or_nothing (slice_get seen (64 * r + k))
+
+-- what the table tells of a place
+abbrev pub entry : List (Option ℕ) → List Seen → Interface → ℕ → Seen
+entry rows seen i k = elim (nat_lt k 64) [ true ↦ row_entry seen (row_at rows (number i)) k | false ↦ Nothing ]
 
 -- what is told of a place is so of the first n nodes
 pub record Shows (c : Code) (n : ℕ) (i : Interface) (k : ℕ) (s : Seen) : Type 0 where
   pub place : is_something s ≡ has_place_below c i k n
   pub depths : (d : ℕ) → is_only s d ≡ all_of (agrees c i k d) (below n)
 
--- the table tells of the first n nodes at each place of the first interfaces
-pub record IsTable (c : Code) (n interfaces : ℕ) (table : List Seen) : Type 0 where
-  pub len : length table ≡ 64 * interfaces
-  pub each : (i : Interface) (k : ℕ) → k < 64 → number i < interfaces → Shows c n i k (entry table i k)
+-- the table tells of the first n nodes at each place of the first interfaces; each interface with a node has a row of its own
+pub record IsTable (c : Code) (n interfaces : ℕ) (rows : List (Option ℕ)) (seen : List Seen) : Type 0 where
+  pub len : length rows ≡ interfaces
+  pub whole : length seen % 64 ≡ 0
+  pub fits : (m r : ℕ) → row_at rows m ≡ Some r → 64 * r + 64 ≤ length seen
+  pub apart : (m l r : ℕ) → row_at rows m ≡ Some r → row_at rows l ≡ Some r → m ≡ l
+  pub each : (i : Interface) (k : ℕ) → k < 64 → number i < interfaces → Shows c n i k (entry rows seen i k)
 
 -- ---- sizes
 
@@ -118,27 +127,28 @@ abbrev pub size_of : Code → Interface → ℕ
 size_of c i = count_by (belongs_at c i) (node_numbers c)
 
 -- the tables tell of each place and each interface of the code
-pub record AreTables (c : Code) (seen : List Seen) (sizes : List ℕ) : Type 0 where
-  pub places : (i : Interface) (k : ℕ) → Shows c (length c.nodes) i k (entry seen i k)
+pub record AreTables (c : Code) (rows : List (Option ℕ)) (seen : List Seen) (sizes : List ℕ) : Type 0 where
+  pub places : (i : Interface) (k : ℕ) → Shows c (length c.nodes) i k (entry rows seen i k)
   pub counts : (i : Interface) → size_in sizes (number i) ≡ size_of c i
 
 -- ---- borders
 
 -- the table tells of each param and each result of the code
-pub record IsBorder (c : Code) (table : List Seen) : Type 0 where
-  pub params : (k : ℕ) → Shows c (length c.nodes) Params k (entry table Params k)
-  pub results : (k : ℕ) → Shows c (length c.nodes) Results k (entry table Results k)
+pub record IsBorder (c : Code) (rows : List (Option ℕ)) (seen : List Seen) : Type 0 where
+  pub params : (k : ℕ) → Shows c (length c.nodes) Params k (entry rows seen Params k)
+  pub results : (k : ℕ) → Shows c (length c.nodes) Results k (entry rows seen Results k)
 
--- a table that is there
-abbrev pub or_no_table : Option (Vec Seen Global) → List Seen
-or_no_table None = []
-or_no_table (Some v) = v.items
+-- the rows of a table that is there
+abbrev pub or_no_rows : Option Table → List (Option ℕ)
+or_no_rows None = []
+or_no_rows (Some t) = t.rows.items
 
--- the table of code n
-abbrev pub border_in : List (Vec Seen Global) → ℕ → List Seen
-border_in borders n = or_no_table (slice_get borders n)
+-- what a table that is there tells in its rows
+abbrev pub or_no_seen : Option Table → List Seen
+or_no_seen None = []
+or_no_seen (Some t) = t.seen.items
 
 -- each of the first codes has its table
-pub record AreBorders (g : Graph) (n : ℕ) (borders : List (Vec Seen Global)) : Type 0 where
+pub record AreBorders (g : Graph) (n : ℕ) (borders : List Table) : Type 0 where
   pub len : length borders ≡ n
-  pub each : (m : ℕ) → m < n → IsBorder (code_of g m) (border_in borders m)
+  pub each : (m : ℕ) → m < n → IsBorder (code_of g m) (or_no_rows (slice_get borders m)) (or_no_seen (slice_get borders m))

@@ -14,8 +14,7 @@ use crate::graph_tables::GraphTables;
 use crate::lacking::is_place_missing;
 use crate::nodes::{kind_at, node_count};
 use crate::places::{is_place_range, is_place_twice};
-use crate::seen::Seen;
-use crate::table::{add_to_all, no_nodes};
+use crate::table::{Table, interface_count};
 use std::alloc::{AllocError, Global};
 use tam_graph::{Accepted, CheckCause, Code, Graph, Kind, Place};
 
@@ -87,12 +86,13 @@ fn first_in(
     let code = graph.graph.code(n);
     let tables = CodeTables::of(alloc, code)?;
     let cycles = cycles(alloc, code)?;
-    let mut earlier = no_nodes(alloc, code)?;
+    let interfaces = interface_count(code);
+    let mut earlier = Table::of(alloc, code, interfaces)?;
     for x in 0..node_count(code) {
         if let Some(cause) = first_at(graph, n, &tables, &earlier, x, &cycles) {
             return Ok(Some((n, x, cause)));
         }
-        add_to_all(code, &mut earlier, x);
+        earlier.add(code, interfaces, x)?;
     }
     Ok(None)
 }
@@ -102,13 +102,13 @@ fn first_at(
     graph: &GraphTables<'_>,
     n: u32,
     tables: &CodeTables<'_>,
-    earlier: &[Seen],
+    earlier: &Table,
     x: u32,
     cycles: &[Option<u32>],
 ) -> Option<CheckCause>
     requires code { tables.now.code.now ≡ code_of graph.now.graph.now n }
     requires in_range { x < length tables.now.code.now.nodes }
-    requires earlier { IsTable tables.now.code.now x (8 * (length tables.now.code.now.nodes + length tables.now.code.now.owners)) earlier.now }
+    requires earlier { IsTable tables.now.code.now x (8 * (length tables.now.code.now.nodes + length tables.now.code.now.owners)) earlier.now.rows.items earlier.now.seen.items }
     requires cycles { AreCycles tables.now.code.now cycles.now }
     ensures value { option_to_list result ≡ take 1 (faults_at graph.now.graph.now n x) }
 {

@@ -4,9 +4,8 @@ ghost use Rattle.tam_check.specs.Interfaces.{has_place, all_agree};
 ghost use Rattle.tam_check.specs.Tables.{size_of, AreTables};
 
 use crate::interface::Interface;
-use crate::seen::Seen;
 use crate::sizes::sizes;
-use crate::table::{full_table, interface_count, look};
+use crate::table::{Table, interface_count};
 use std::alloc::{AllocError, Global};
 use tam_graph::Code;
 
@@ -14,9 +13,9 @@ use tam_graph::Code;
 #[derive(Debug, Drop)]
 pub struct CodeTables<'c> {
     pub code: &'c Code,
-    seen: Vec<Seen>,
+    table: Table,
     sizes: Vec<u32>,
-    ghost tables: { AreTables code.now seen.items sizes.items },
+    ghost tables: { AreTables code.now table.rows.items table.seen.items sizes.items },
 }
 
 impl<'c> CodeTables<'c> {
@@ -24,23 +23,23 @@ impl<'c> CodeTables<'c> {
         ensures code { IfOk result (λ tables. tables.code.now ≡ code.now) }
     {
         let interfaces = interface_count(code);
-        let seen = full_table(alloc, code, interfaces)?;
+        let table = Table::full(alloc, code, interfaces)?;
         let sizes = sizes(alloc, code, interfaces)?;
-        Ok(CodeTables { code, seen, sizes })
+        Ok(CodeTables { code, table, sizes })
     }
 
     /// Whether a node has this place of the interface.
     pub fn has_place(&self, interface: Interface, place: u32) -> bool
         ensures value { result ≡ has_place self.now.code.now interface place }
     {
-        look(&self.seen, interface, place).is_something()
+        self.table.look(interface, place).is_something()
     }
 
     /// Whether all that is handed over at this place of the interface has this depth.
     pub fn all_agree(&self, interface: Interface, place: u32, depth: u8) -> bool
         ensures value { result ≡ all_agree self.now.code.now interface place depth }
     {
-        look(&self.seen, interface, place).is_only(depth)
+        self.table.look(interface, place).is_only(depth)
     }
 
     /// How many nodes belong to the interface.

@@ -5,8 +5,7 @@ ghost use Rattle.tam_check.specs.Interfaces.{has_place, all_agree};
 ghost use Rattle.tam_check.specs.Tables.{IsBorder, AreBorders};
 
 use crate::interface::Interface;
-use crate::seen::Seen;
-use crate::table::{full_table, look};
+use crate::table::Table;
 use std::alloc::{AllocError, Global};
 use tam_graph::{Code, Graph};
 
@@ -17,7 +16,7 @@ const BORDER: usize = 2;
 #[derive(Debug, Drop)]
 pub struct GraphTables<'g> {
     pub graph: &'g Graph,
-    borders: Vec<Vec<Seen>>,
+    borders: Vec<Table>,
     ghost tables: { AreBorders graph.now (length graph.now.codes) borders.items },
 }
 
@@ -40,7 +39,7 @@ impl<'g> GraphTables<'g> {
     {
         Border {
             code: self.graph.code(n),
-            seen: &self.borders[n as usize],
+            table: &self.borders[n as usize],
         }
     }
 }
@@ -49,41 +48,41 @@ impl<'g> GraphTables<'g> {
 #[derive(Clone, Copy, Debug)]
 pub struct Border<'t> {
     pub code: &'t Code,
-    seen: &'t [Seen],
-    ghost border: { IsBorder code.now seen.now },
+    table: &'t Table,
+    ghost border: { IsBorder code.now table.now.rows.items table.now.seen.items },
 }
 
 impl Border<'_> {
     pub fn has_param(&self, place: u32) -> bool
         ensures value { result ≡ has_place self.now.code.now Interface.Params place }
     {
-        look(self.seen, Interface::Params, place).is_something()
+        self.table.look(Interface::Params, place).is_something()
     }
 
     pub fn has_result(&self, place: u32) -> bool
         ensures value { result ≡ has_place self.now.code.now Interface.Results place }
     {
-        look(self.seen, Interface::Results, place).is_something()
+        self.table.look(Interface::Results, place).is_something()
     }
 
     /// Whether all params of this place have this depth.
     pub fn params_agree(&self, place: u32, depth: u8) -> bool
         ensures value { result ≡ all_agree self.now.code.now Interface.Params place depth }
     {
-        look(self.seen, Interface::Params, place).is_only(depth)
+        self.table.look(Interface::Params, place).is_only(depth)
     }
 
     /// Whether the operands of all results of this place have this depth.
     pub fn results_agree(&self, place: u32, depth: u8) -> bool
         ensures value { result ≡ all_agree self.now.code.now Interface.Results place depth }
     {
-        look(self.seen, Interface::Results, place).is_only(depth)
+        self.table.look(Interface::Results, place).is_only(depth)
     }
 }
 
-fn border_of(alloc: Global, code: &Code) -> Result<Vec<Seen>, AllocError>
-    ensures value { IfOk result (λ border. IsBorder code.now border.items) }
+fn border_of(alloc: Global, code: &Code) -> Result<Table, AllocError>
+    ensures value { IfOk result (λ border. IsBorder code.now border.rows.items border.seen.items) }
 {
-    let border = full_table(alloc, code, BORDER)?;
+    let border = Table::full(alloc, code, BORDER)?;
     Ok(border)
 }

@@ -8,20 +8,19 @@ ghost use Rattle.tam_check.specs.Tables.{IsTable};
 use crate::code_tables::CodeTables;
 use crate::interface::Interface;
 use crate::nodes::{block_at, callee_of, kind_at, owner_of, params_of, results_of};
-use crate::seen::Seen;
-use crate::table::look;
+use crate::table::Table;
 use tam_graph::{Code, Graph, Kind};
 
 /// Whether an earlier node has the same place of the same interface; the table tells of the earlier nodes.
 ///
 /// docs/FORMATS.md, "What is accepted".
-pub fn is_place_twice(code: &Code, earlier: &[Seen], x: u32) -> bool
+pub fn is_place_twice(code: &Code, earlier: &Table, x: u32) -> bool
     requires in_range { x < length code.now.nodes }
-    requires earlier { IsTable code.now x (8 * (length code.now.nodes + length code.now.owners)) earlier.now }
+    requires earlier { IsTable code.now x (8 * (length code.now.nodes + length code.now.owners)) earlier.now.rows.items earlier.now.seen.items }
     ensures value { result ≡ is_place_twice code.now x }
 {
     match Interface::of(block_at(code, x), kind_at(code, x)) {
-        Some((interface, place)) => look(earlier, interface, place).is_something(),
+        Some((interface, place)) => earlier.look(interface, place).is_something(),
         None => false,
     }
 }

@@ -1,4 +1,3 @@
-use Rattle.std.proofs.lemmas.Grind.{common_steps}
 use Rattle.std.proofs.Common.{◌<◌, ◌∙◌, ap, sym, length, map, arith}
 use Rattle.tam_graph.specs.Graphs.{code_of}
 use Rattle.tam_graph.specs.Accepted.{faults_at}
@@ -11,7 +10,7 @@ loop-x-preserved c = (
   none-next (faults_on c.args.graph.now.graph.now c.args.n) c.loop-x.x c.loop-x.invariant.0
       (first-map (λ f. (c.args.n, c.loop-x.x, f)) (faults_at c.args.graph.now.graph.now c.args.n c.loop-x.x)
       ∙ ap (map (λ f. (c.args.n, c.loop-x.x, f))) (sym c.in_default.ensures.value)),
-  grind (arith, common_steps),
+  rw c.interface_count-interfaces.ensures.value at c.in_ok-add.ensures.after,
 )
 
 pub returns-in-Some : goal.returns-in-Some

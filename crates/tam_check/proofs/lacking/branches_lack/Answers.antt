@@ -17,7 +17,7 @@ returns-then-branches_lack_at c =
     (sym c.branches_lack_at.ensures.value ∙ c.if-branches_lack_at.true) in
     record {
       value = sym (branches-lack tables.code.now c.args.cond c.args.yes c.args.no
-          (λ i k. low-place tables.code.now tables.seen.items i k (tables.tables.places i k).place) ∙ found);
+          (λ i k. low-place tables.code.now tables.table.rows.items tables.table.seen.items i k (tables.tables.places i k).place) ∙ found);
     }
 
 pub returns : goal.returns
@@ -27,5 +27,5 @@ returns c =
     let none : any_of (branches_lack_at tables.code.now c.args.cond c.args.yes c.args.no) (below 64) ≡ false = rw same at c.loop-place.invariant in
     record {
       value = sym (branches-lack tables.code.now c.args.cond c.args.yes c.args.no
-          (λ i k. low-place tables.code.now tables.seen.items i k (tables.tables.places i k).place) ∙ none);
+          (λ i k. low-place tables.code.now tables.table.rows.items tables.table.seen.items i k (tables.tables.places i k).place) ∙ none);
     }

@@ -18,8 +18,8 @@ returns-then-call_lacks_at c =
     (sym c.call_lacks_at.ensures.value ∙ c.if-call_lacks_at.true) in
     record {
       value = sym (call-lacks c.args.tables.now.code.now c.args.call callee.code.now
-          (λ k. low-place callee.code.now callee.seen.now Params k (callee.border.params k).place)
-          (λ k. low-place callee.code.now callee.seen.now Results k (callee.border.results k).place) ∙ found);
+          (λ k. low-place callee.code.now callee.table.now.rows.items callee.table.now.seen.items Params k (callee.border.params k).place)
+          (λ k. low-place callee.code.now callee.table.now.rows.items callee.table.now.seen.items Results k (callee.border.results k).place) ∙ found);
     }
 
 pub returns : goal.returns
@@ -29,6 +29,6 @@ returns c =
     let none : any_of (call_lacks_at c.args.tables.now.code.now c.args.call callee.code.now) (below 64) ≡ false = rw same at c.loop-place.invariant in
     record {
       value = sym (call-lacks c.args.tables.now.code.now c.args.call callee.code.now
-          (λ k. low-place callee.code.now callee.seen.now Params k (callee.border.params k).place)
-          (λ k. low-place callee.code.now callee.seen.now Results k (callee.border.results k).place) ∙ none);
+          (λ k. low-place callee.code.now callee.table.now.rows.items callee.table.now.seen.items Params k (callee.border.params k).place)
+          (λ k. low-place callee.code.now callee.table.now.rows.items callee.table.now.seen.items Results k (callee.border.results k).place) ∙ none);
     }

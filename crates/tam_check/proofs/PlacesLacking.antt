@@ -15,7 +15,8 @@ use Rattle.tam_check.specs.Tables.{is_something, entry}
 use Rattle.tam_check.proofs.InterfaceTests.{enters-place, leaves-place}
 
 -- what a table tells of has a place below 64
-pub low-place : (c : Code) (rows : List (Option ℕ)) (seen : List Seen) (i : Interface) (k : ℕ) → is_something (entry rows seen i k) ≡ has_place c i k → has_place c i k ≡ true → k < 64
+pub low-place : (c : Code) (rows : List (Option ℕ)) (seen : List Seen) (i : Interface) (k : ℕ) → is_something (entry rows seen i k) ≡ has_place c i k
+    → has_place c i k ≡ true → k < 64
 low-place c rows seen i k shows h = go (nat_lt k 64) refl
   where
     go : (b : Bool) → nat_lt k 64 ≡ b → k < 64

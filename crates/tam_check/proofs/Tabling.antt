@@ -160,7 +160,8 @@ module _ (c : Code) (n interfaces : ℕ) (rows : List (Option ℕ)) (seen : List
     pub table-untold : (nat_lt p 64 && nat_lt (number j) interfaces) ≡ false → IsTable c (n + 1) interfaces rows seen
     table-untold e = kept (λ i k l m. stands-at i k ∙ differs i k l m (same_side j i && (p == k)) refl)
       where
-        differs : (i : Interface) (k : ℕ) → k < 64 → number i < interfaces → (b : Bool) → (same_side j i && (p == k)) ≡ b → (same_side j i && (p == k)) ≡ false
+        differs : (i : Interface) (k : ℕ) → k < 64 → number i < interfaces → (b : Bool) → (same_side j i && (p == k)) ≡ b
+            → (same_side j i && (p == k)) ≡ false
         differs i k l m false h = h
         differs i k l m true h =
             let s = both-true (same_side j i) (p == k) h in
@@ -174,7 +175,8 @@ module _ (c : Code) (n interfaces : ℕ) (rows : List (Option ℕ)) (seen : List
       changed : List Seen
       changed = slice_set seen (64 * r + p) given
 
-      told : (i : Interface) (k : ℕ) → k < 64 → number i < interfaces → (b : Bool) → (same_side j i && (p == k)) ≡ b → Shows c (n + 1) i k (entry rows changed i k)
+      told : (i : Interface) (k : ℕ) → k < 64 → number i < interfaces → (b : Bool) → (same_side j i && (p == k)) ≡ b
+          → Shows c (n + 1) i k (entry rows changed i k)
       unfolding changed
       told i k l m true h =
           let s = both-true (same_side j i) (p == k) h in
@@ -183,7 +185,8 @@ module _ (c : Code) (n interfaces : ℕ) (rows : List (Option ℕ)) (seen : List
           let its : row_at rows (number i) ≡ Some r = ap (row_at rows) (sym side) ∙ row in
           let within : 64 * r + p < length seen = let f = is.fits (number j) r row in omega (arith, f, low) in
           let old : entry rows seen j p ≡ entry rows seen i k =
-          entry-low rows seen j p low ∙ (ap (λ z. row_entry seen (row_at rows z) p) side ∙ (ap (row_entry seen (row_at rows (number i))) place ∙ sym (entry-low rows seen i k l))) in
+          entry-low rows seen j p low ∙ (ap (λ z. row_entry seen (row_at rows z) p) side
+          ∙ (ap (row_entry seen (row_at rows (number i))) place ∙ sym (entry-low rows seen i k l))) in
           let new : entry rows changed i k ≡ given =
           entry-low rows changed i k l ∙ (ap (λ z. row_entry changed z k) its
           ∙ (ap (λ z. or_nothing (slice_get changed (64 * r + z))) (sym place) ∙ ap or_nothing (get-set seen (64 * r + p) given within))) in
@@ -203,7 +206,8 @@ module _ (c : Code) (n interfaces : ℕ) (rows : List (Option ℕ)) (seen : List
           go : (o : Option ℕ) → row_at rows (number i) ≡ o → row_entry seen (row_at rows (number i)) k ≡ row_entry changed (row_at rows (number i)) k
           go None e = ap (λ z. row_entry seen z k) e ∙ ap (λ z. row_entry changed z k) (sym e)
           go (Some q) e =
-              ap (λ z. row_entry seen z k) e ∙ (sym (ap or_nothing (get-other seen (64 * r + p) (64 * q + k) given (other q e))) ∙ ap (λ z. row_entry changed z k) (sym e))
+              ap (λ z. row_entry seen z k) e ∙ (sym (ap or_nothing (get-other seen (64 * r + p) (64 * q + k) given (other q e)))
+              ∙ ap (λ z. row_entry changed z k) (sym e))
 
       -- a node of an interface
       pub table-told : IsTable c (n + 1) interfaces rows (slice_set seen (64 * r + p) given)

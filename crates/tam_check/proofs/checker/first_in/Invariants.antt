@@ -6,4 +6,5 @@ use Rattle.tam_check.proofs.checker.first_in.Given as goal
 
 abbrev pub invariant-loop-x : goal.invariant-loop-x
 invariant-loop-x l =
-    (flat_map (faults_on l.graph.graph.now l.n) (below l.x) ≡ []) × IsTable l.code l.x (8 * (length l.code.nodes + length l.code.owners)) l.earlier.rows.items l.earlier.seen.items
+    (flat_map (faults_on l.graph.graph.now l.n) (below l.x) ≡ []) × IsTable l.code l.x
+    (8 * (length l.code.nodes + length l.code.owners)) l.earlier.rows.items l.earlier.seen.items

@@ -11,7 +11,8 @@ returns-clause-after c =
     let is = ap length c.deref.ensures.value in
     let whole = c.requires.before.whole in
     omega (arith, rows, is, whole) in
-    rw c.in_ok-extend_from_slice.ensures.items (table-row c.args.code.now c.args.x c.args.interfaces c.args.self.now.rows.items c.args.self.now.seen.items c.requires.before
+    rw c.in_ok-extend_from_slice.ensures.items
+    (table-row c.args.code.now c.args.x c.args.interfaces c.args.self.now.rows.items c.args.self.now.seen.items c.requires.before
     c.args.number c.requires.in_range none c.row_count-row.result start)
 
 pub returns-clause-value : goal.returns-clause-value

@@ -8,7 +8,7 @@ use Rattle.tam_graph.specs.Reading.{IsOfText}
 use Rattle.tam_graph.specs.Built.{IsBuilt}
 use Rattle.tam_msgs.specs.declared.limits.Limits.{Limits}
 use Rattle.tam_msgs.specs.Runs.{Report, result_line, text_of, line}
-use Rattle.tam_eval.specs.GraphRuns.{graph_told, graph_text}
+use Rattle.tam_eval.specs.GraphRuns.{graph_told}
 use Rattle.tam.specs.declared.usage_cause.UsageCause.{UsageCause}
 use Rattle.tam.specs.declared.usage_cause.UsageCause.TheVariants.{Words, Mode, Args, ArgsCount}
 use Rattle.tam.specs.Words.{Asked, Job, Usage, name_of}
@@ -87,11 +87,11 @@ pub data Answer (ask : Asked) (left : Option (List ℕ)) : ℕ → List ℕ → 
   wrong_count : {g : Graph} {args bytes : List ℕ} → ask ≡ Job (name_of ask) args → left ≡ Some bytes → length bytes ≤ most_bytes
       → Spells bytes g → length args ≢ params_of (code_of g g.main) → Answer ask left 2 (usage_line ArgsCount)
   -- it holds one, which is run
-  ran : {g : Graph} {args : List ℕ} → AsksRun ask left g args → Answer ask left 0 (graph_text g args [] usual_limits)
+  ran : {g : Graph} {args : List ℕ} → AsksRun ask left g args → Answer ask left 0 (text_of (run_of g args))
   -- memory was wanted before a run
   no_memory : Answer ask left 11 no_memory_line
   -- or in a run, behind the lines of its first results
-  no_memory_in_run : {g : Graph} {args : List ℕ} {front rest : List (ℕ × ℕ)} → AsksRun ask left g args → (run_of g args).printed ≡ front ++ rest
+  no_memory_in_run : {g : Graph} {args : List ℕ} (front rest : List (ℕ × ℕ)) → AsksRun ask left g args → (run_of g args).printed ≡ front ++ rest
       → Answer ask left 11 (flat_map result_line front ++ no_memory_line)
   -- of a file whose content isn't told nothing more is said
   untold : {args text : List ℕ} {status : ℕ} → ask ≡ Job (name_of ask) args → left ≡ None → Answer ask left status text

@@ -1,6 +1,6 @@
 -- What the words behind the program's name ask for.
 -- The rule in words: docs/FORMATS.md, "Command line".
-use Rattle.std.specs.Prelude.{ℕ, Bool, true, false, ◌==◌, List, [], ◌∷◌, map, drop, take, codes, Option, Some, None}
+use Rattle.std.specs.Prelude.{ℕ, ◌≡◌, Bool, true, false, ◌==◌, List, [], ◌∷◌, map, drop, take, codes, Option, Some, None}
 use Rattle.std.specs.List.{slice_split}
 use Rattle.tam_word.specs.Lists.{same_bytes}
 use Rattle.tam_word.specs.Numbers.{word_of}
@@ -48,13 +48,27 @@ asked_by mode name args =
 abbrev pub args_option : List ℕ
 args_option = codes "--args="
 
+-- the list in an option
+abbrev pub list_of : List ℕ → Option (List ℕ)
+list_of option = elim (same_bytes (take 7 option) args_option) [ true ↦ Some (drop 7 option) | false ↦ None ]
+
+-- what a mode, a name and an option ask for
+abbrev pub asked_with : List ℕ → List ℕ → Option (List ℕ) → Asked
+asked_with mode name None = Usage Words
+asked_with mode name (Some args) = asked_by mode name args
+
 -- what the words ask for
 abbrev pub asked : List (List ℕ) → Asked
 asked (mode ∷ name ∷ []) = asked_by mode name []
-asked (mode ∷ name ∷ option ∷ []) = elim (same_bytes (take 7 option) args_option) [ true ↦ asked_by mode name (drop 7 option) | false ↦ Usage Words ]
+asked (mode ∷ name ∷ option ∷ []) = asked_with mode name (list_of option)
 asked _ = Usage Words
 
 -- the file that is asked for, by its name
 abbrev pub name_of : Asked → List ℕ
 name_of (Job name args) = name
 name_of (Usage cause) = []
+
+-- the file of this name is asked for
+abbrev pub Names : Asked → List ℕ → Type 0
+Names (Job name args) other = other ≡ name
+Names (Usage cause) other = ⊥

@@ -1,8 +1,9 @@
 -- What files in memory are to their callers, and what a read of them does.
-use Rattle.std.specs.Prelude.{◌≡◌, ◌⊎◌, min, ℕ, List, [], length, map, Contains, Result, Ok, Err}
+use Rattle.std.specs.Prelude.{◌≡◌, ◌⊎◌, min, ℕ, List, [], length, map, Contains, Result, Ok, Err, Vec}
+use Rattle.std.specs.declared.alloc.Global.{Global}
 use Rattle.tam_edge.specs.declared.files.FileError.{FileError}
 use Rattle.tam_edge.specs.declared.files.FileError.TheVariants.{Failed, NoMemory}
-use Rattle.tam_edge.specs.Entries.{value_of, IsMissing}
+use Rattle.tam_edge.specs.Entries.{Entry, value_of, value_by, IsMissing}
 use Rattle.tam_edge.specs.Faults.{next_count}
 
 -- the files in order, each with its name and the bytes left; the numbers of the calls that fail; the calls made; the faults, by name
@@ -11,6 +12,10 @@ pub record FilesInMemory : Type 0 where
   pub fail : List ℕ
   pub calls : ℕ
   pub faults : List (List ℕ × ℕ)
+
+-- the bytes of the first file of that name, none where no file has it
+abbrev pub bytes_held : List (Entry (Vec ℕ Global)) → List ℕ → List ℕ
+bytes_held files name = value_by (λ bytes. bytes.items) [] files name
 
 -- the bytes that are left of the first file of that name, none where the name is not held
 abbrev pub bytes_left : FilesInMemory → List ℕ → List ℕ

@@ -1,5 +1,5 @@
 -- What the reading of a whole file and the writing of a whole text leave.
-use Rattle.std.specs.Prelude.{◌≡◌, ℕ, ◌<◌, ◌≤◌, List, ◌++◌, length, Option, None, Some, Result, Ok, Err, [], ⊤}
+use Rattle.std.specs.Prelude.{◌≡◌, ℕ, ◌+◌, ◌<◌, ◌≤◌, List, ◌++◌, length, Option, None, Some, Result, Ok, Err, [], ⊤}
 use Rattle.std.specs.Io.KnownBytes.{Appends}
 use Rattle.tam_edge.specs.declared.whole.ReadError.{ReadError}
 use Rattle.tam_edge.specs.declared.whole.ReadError.TheVariants.{Fault, TooLong, NoMemory}
@@ -10,11 +10,11 @@ GivesAll None now given = ⊤
 GivesAll (Some before) None given = ⊥
 GivesAll (Some before) (Some now) given = (before ≡ given) × (now ≡ [])
 
--- told bytes that are left are a suffix of those before
-abbrev pub LeavesSuffix : Option (List ℕ) → Option (List ℕ) → Type 0
-LeavesSuffix None now = ⊤
-LeavesSuffix (Some before) None = ⊥
-LeavesSuffix (Some before) (Some now) = (given : List ℕ) × (before ≡ given ++ now)
+-- told bytes that are left are a suffix of those before, and at most one more than the limit are gone
+abbrev pub LeavesSuffix : Option (List ℕ) → Option (List ℕ) → ℕ → Type 0
+LeavesSuffix None now limit = ⊤
+LeavesSuffix (Some before) None limit = ⊥
+LeavesSuffix (Some before) (Some now) limit = (given : List ℕ) × (before ≡ given ++ now) × (length given ≤ limit + 1)
 
 -- told bytes are more than the limit
 abbrev pub IsLonger : Option (List ℕ) → ℕ → Type 0

@@ -1,5 +1,5 @@
 // The files of the system. What they hold is not told.
-ghost use Rattle.std.specs.Prelude.{◌≡◌, ◌≢◌, ◌+◌, ◌-◌, ◌^◌, ◌≤◌, min, List, ℕ, [], length, None, IfOk, OnOk, OnErr};
+ghost use Rattle.std.specs.Prelude.{◌≡◌, ◌≢◌, ◌≤◌, List, ℕ, length, None, IfOk};
 ghost use Rattle.tam_edge.specs.Faults.{CountsRead, CountsFault};
 ghost use Rattle.tam_edge.specs.Reading.{KeepsPiece};
 ghost use Rattle.tam_edge.specs.Entries.{pairs_by, value_of, NoneNamed, IsFirstNamed};
@@ -156,9 +156,10 @@ impl<R: rt::Files + Clone + Drop> Model for HostFiles<R> {
 }
 
 impl<R: rt::Files + Clone + Drop> HostFiles<R> {
-    /// No file is open yet.
+    /// No file is open yet. What a name holds is never told.
     pub fn new(rt: R, alloc: Global) -> HostFiles<R>
-        ensures { result ≡ [] }
+        ensures untold { (name : List ℕ) → ⟦<HostFiles<R> as Files>⟧.left result name ≡ None }
+        ensures faultless { (name : List ℕ) → ⟦<HostFiles<R> as Files>⟧.faults result name ≡ 0 }
     {
         HostFiles {
             rt,

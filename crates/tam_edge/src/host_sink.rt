@@ -19,9 +19,10 @@ impl<R: Print + Clone + Drop> Model for HostSink<R> {
 }
 
 impl<R: Print + Clone + Drop> HostSink<R> {
-    /// Nothing is written yet.
+    /// Nothing is written yet. What is taken is never told.
     pub fn new(rt: R) -> HostSink<R>
-        ensures { result ≡ 0 }
+        ensures untold { ⟦<HostSink<R> as Sink>⟧.taken result ≡ None }
+        ensures faultless { ⟦<HostSink<R> as Sink>⟧.faults result ≡ 0 }
     {
         HostSink { rt, faults: 0 }
     }

@@ -1,10 +1,11 @@
 // Files in memory, of which chosen reads fail.
-ghost use Rattle.std.specs.Prelude.{◌≡◌, ◌≢◌, ◌↔◌, ◌+◌, ◌-◌, ◌^◌, ◌<◌, ◌≤◌, ◌⊎◌, min, List, ℕ, [], ◌∷◌, ◌++◌, length, map, reverse, take, Some, IfOk, OnOk, OnErr, IfSome, IfNone, IsTrue};
+ghost use Rattle.std.specs.Prelude.{◌≡◌, ◌≢◌, ◌↔◌, ◌<◌, ◌≤◌, ◌⊎◌, min, List, ℕ, [], ◌++◌, length, map, reverse, take};
+ghost use Rattle.std.specs.Prelude.{Some, IfOk, OnOk, OnErr, IfSome, IfNone, IsTrue};
 ghost use Rattle.tam_edge.specs.Faults.{next_count, CountsRead};
 ghost use Rattle.tam_edge.specs.Reading.{KeepsPiece};
 ghost use Rattle.tam_edge.specs.Entries.{pairs_by, NoneNamed, IsFirstNamed};
 ghost use Rattle.tam_edge.specs.Held.{reversed_items, bytes_of, count_of};
-ghost use Rattle.tam_edge.specs.MemFiles.{FilesInMemory, bytes_left, fault_count, ReadsMemory};
+ghost use Rattle.tam_edge.specs.MemFiles.{FilesInMemory, bytes_left, fault_count, bytes_held, ReadsMemory};
 
 use crate::calls::{is_to_fail, next_count};
 use crate::entries::position_of;
@@ -28,7 +29,12 @@ pub struct MemFiles {
 impl Model for MemFiles {
     ghost Value = { FilesInMemory };
 
-    ghost view = { λ m. record { files = pairs_by reversed_items m.files.items; fail = m.fail.items; calls = m.calls; faults = pairs_by (λ count. count) m.faults.items } };
+    ghost view = { λ memory. record {
+      files = pairs_by reversed_items memory.files.items;
+      fail = memory.fail.items;
+      calls = memory.calls;
+      faults = pairs_by (λ count. count) memory.faults.items;
+    } };
 }
 
 impl MemFiles {
@@ -37,7 +43,8 @@ impl MemFiles {
         ensures held { result.files ≡ pairs_by (λ bytes. bytes.items) files.items }
         ensures fail { result.fail ≡ fail.items }
         ensures uncalled { result.calls ≡ 0 }
-        ensures faultless { result.faults ≡ [] }
+        ensures left { (name : List ℕ) → ⟦<MemFiles as Files>⟧.left result name ≡ Some (bytes_held files.items name) }
+        ensures faultless { (name : List ℕ) → ⟦<MemFiles as Files>⟧.faults result name ≡ 0 }
     {
         reverse_all(&mut files);
         MemFiles {

@@ -1,7 +1,6 @@
 // A sink in memory, of which chosen writes fail.
-ghost use Rattle.std.specs.Prelude.{◌≡◌, ◌↔◌, ◌+◌, ◌-◌, ◌^◌, ◌<◌, ◌≤◌, ◌⊎◌, min, ℕ, [], ◌++◌, length, take, Some, IfOk, IsErr, OnErr, vec_len, vec_capacity};
-ghost use Rattle.std.specs.Io.KnownBytes.{Appends};
-ghost use Rattle.tam_edge.specs.Faults.{next_count, CountsPut};
+ghost use Rattle.std.specs.Prelude.{◌≡◌, ◌<◌, ◌≤◌, [], ◌++◌, length, take, Some, IfOk, OnErr, vec_capacity};
+ghost use Rattle.tam_edge.specs.Faults.{CountsPut};
 ghost use Rattle.tam_edge.specs.MemSink.{SinkInMemory, PutsMemory};
 
 use crate::calls::{is_to_fail, next_count};
@@ -22,9 +21,15 @@ pub struct MemSink {
 impl Model for MemSink {
     ghost Value = { SinkInMemory };
 
-    ghost view = { λ s. record { bytes = s.bytes.items; room = s.room; fail = s.fail.items; calls = s.calls; faults = s.faults } };
+    ghost view = { λ sink. record {
+      bytes = sink.bytes.items;
+      room = sink.room;
+      fail = sink.fail.items;
+      calls = sink.calls;
+      faults = sink.faults;
+    } };
 
-    ghost invariant = { λ s. (length s.bytes.items ≤ s.room) × (s.room ≤ vec_capacity s.bytes) };
+    ghost invariant = { λ sink. (length sink.bytes.items ≤ sink.room) × (sink.room ≤ vec_capacity sink.bytes) };
 }
 
 impl MemSink {

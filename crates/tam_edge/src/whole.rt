@@ -36,7 +36,7 @@ pub fn read_whole<F: Files>(
     // Told bytes are too long exactly where they are more than the limit. A fault is told by the name's count.
     ensures too_long { TellsTooLong (F.left files.old name.now) limit result }
     ensures counted { CountsReadWhole (F.faults files.old name.now) (F.faults files.new name.now) result }
-    ensures err { OnErr result (LeavesSuffix (F.left files.old name.now) (F.left files.new name.now)) }
+    ensures err { OnErr result (LeavesSuffix (F.left files.old name.now) (F.left files.new name.now) limit) }
 
     // No other name changes.
     ensures other_left { (other : List ℕ) → other ≢ name.now → F.left files.new other ≡ F.left files.old other }

@@ -15,8 +15,9 @@ use Rattle.tam_flow.specs.Worlds.{World, activation_at, its_code, has_word, word
 use Rattle.tam_flow.specs.Journals.{State, has_run, on_their_way}
 use Rattle.tam_flow.specs.Reached.{IsThere}
 use Rattle.tam_flow.proofs.Moves.{Moves, IsForInlet}
-use Rattle.tam_eval.proofs.Sizes.{Few}
-use Rattle.tam_eval.proofs.Answers.{Answered}
+use Rattle.tam_eval.proofs.WorldSizes.{Few}
+use Rattle.tam_eval.proofs.DeliverySends.{Answered}
+use Rattle.std.proofs.lemmas.List.{length-map}
 
 -- ---- messages that a firing pays for
 
@@ -108,14 +109,9 @@ first-one test (x ∷ xs) = go (test x) refl (first-one test xs)
     go true p h = rw (first_of, p) (omega arith)
     go false p h = rw (first_of, p) h
 
--- as many elements
-length-map : {X Y : Type 0} (f : X → Y) (xs : List X) → length (map f xs) ≡ length xs
-length-map f [] = refl
-length-map f (x ∷ xs) = ap suc (length-map f xs)
-
 -- one for each found
 map-one : {X Y : Type 0} (f : X → Y) (test : X → Bool) (xs : List X) → length (map f (first_of test xs)) ≤ 1
-map-one f test xs = let e = length-map f (first_of test xs) in let l = first-one test xs in omega arith
+map-one f test xs = let e = length-map (first_of test xs) f in let l = first-one test xs in omega arith
 
 module _ (g : Graph) (w : World) (i x : ℕ) where
   -- a result

@@ -19,7 +19,7 @@ use Rattle.tam_flow.specs.Journals.{State, has_run, block_of_act, parts_of_act}
 use Rattle.tam_flow.specs.Told.{Tells, path_of, meant_at, HaveWords, outlet_place, outlet_ran}
 use Rattle.tam_flow.specs.RunJournals.{IsCharged}
 use Rattle.tam_flow.specs.Reached.{IsThere, IsReached, HaveSome}
-use Rattle.tam_eval.proofs.Steps.{distinct-append}
+use Rattle.tam_eval.proofs.KeptBySteps.{distinct-append}
 use Rattle.tam_flow.proofs.ActivationLists.{has-word}
 use Rattle.tam_eval.proofs.Charges.{HasFired, HasReceived, Charged}
 
@@ -89,6 +89,7 @@ module _ (g : Graph) (args : List ℕ) (s : State) (reached : IsReached g (singl
   own-out : (p : ℕ × ℕ) → is_outlet (kind_at (its_code g s.world p.0) p.1) ≡ true → own p ≡ Of_firer (path_of s.world p.0) p.1
   own-out p h = rw (own, h) refl
 
+  -- what is no outlet is charged as the giver of its own value
   own-in : (p : ℕ × ℕ) → is_outlet (kind_at (its_code g s.world p.0) p.1) ≡ false → own p ≡ Of_giver (path_of s.world p.0) p.1
   own-in p h = rw (own, h) refl
 
@@ -99,15 +100,19 @@ module _ (g : Graph) (args : List ℕ) (s : State) (reached : IsReached g (singl
       pair : p.0 ≡ q.0 → p.1 ≡ q.1 → p ≡ q
       pair x y = ap₂ (λ (a b : ℕ). (a, b)) x y
 
+  -- equal givers have one path and one node
   givers-one : {a b : Path} {x y : ℕ} → Of_giver a x ≡ Of_giver b y → (a ≡ b) × (x ≡ y)
   givers-one e = (cc, cc)
 
+  -- and so have equal firers
   firers-one : {a b : Path} {x y : ℕ} → Of_firer a x ≡ Of_firer b y → (a ≡ b) × (x ≡ y)
   firers-one e = (cc, cc)
 
+  -- a firer is no giver
   mixed : {a b : Path} {x y : ℕ} → Of_firer a x ≡ Of_giver b y → ⊥
   mixed e = cc
 
+  -- what two nodes are charged as differs, unless they are one
   own-one : (p q : ℕ × ℕ) → IsThere s.world p.0 → IsThere s.world q.0 → own p ≡ own q → p ≡ q
   own-one p q a b e = go (is_outlet (kind_at (its_code g s.world p.0) p.1)) refl (is_outlet (kind_at (its_code g s.world q.0) q.1)) refl
     where

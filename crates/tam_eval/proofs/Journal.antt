@@ -15,11 +15,12 @@ use Rattle.tam_flow.specs.Worlds.{Fault, Second_store, Outside_cells, opening}
 use Rattle.tam_flow.specs.Journals.{State, Event, initial, is_legal, state_after, on_their_way, may_follow, IsQuiet}
 use Rattle.tam_flow.specs.JournalLaws.{IsJournal}
 use Rattle.tam_flow.specs.RunJournals.{IsCharged, EndsSo}
+use Rattle.tam_flow.specs.ReachedLaw.{JournalsAreReached}
 use Rattle.tam_flow.specs.Reached.{IsReached}
 use Rattle.tam_eval.specs.GraphRuns.{GraphState, graph_step, graph_opening, joins, nothing_begun}
 use Rattle.tam_eval.specs.GraphLaws.{GraphRunsAreJournals}
-use Rattle.tam_eval.proofs.Sizes.{Few}
-use Rattle.tam_eval.proofs.Caught.{AllReached, reached-now, reached-on}
+use Rattle.tam_eval.proofs.WorldSizes.{Few}
+use Rattle.tam_eval.proofs.StepsCaughtUp.{AllReached, reached-now, reached-on}
 use Rattle.tam_eval.proofs.Opening.{opening-follows, opening-same, opening-charge}
 use Rattle.tam_eval.proofs.Running.{EndFits, EndGoes, run-goes}
 use Rattle.tam_eval.proofs.Charges.{Charged}
@@ -115,11 +116,6 @@ ends-so g acc args limits events how made legal all fits charged = record {
         × (cells_used (state_after g (singles g) args events).world.arrays ≡ u)
         × ((f x : ℕ) × Contains (on_their_way (state_after g (singles g) args events)) (Make l f x))
     cells u l (w, m, e, k, (f, x, i)) = (e, k, (f, x, in-contains (Make l f x) (on_their_way (state_after g (singles g) args events)) i))
-
--- the invariant of journals, as its law says it (proved elsewhere)
-abbrev pub JournalsAreReached : Type 0
-JournalsAreReached = (g : Graph) (all : Partitions) (args : List ℕ) (events : List Event) → IsJournal g all args events
-    → IsReached g all args (state_after g all args events)
 
 -- so each run is a journal
 pub graph_runs-journals : JournalsAreReached → GraphRunsAreJournals

@@ -15,10 +15,10 @@ use Rattle.tam_flow.proofs.OnTheWay.{way-is, way-all}
 use Rattle.tam_flow.proofs.Moves.{JustNone, Fits, param-where}
 use Rattle.tam_eval.specs.GraphRuns.{joins, nothing_begun, graph_opening}
 use Rattle.tam_eval.proofs.Follows.{RunsStand, Follows, graph_of}
-use Rattle.tam_eval.proofs.Steps.{Steps, ready-later}
-use Rattle.tam_eval.proofs.Firing.{same-state}
-use Rattle.tam_eval.proofs.Sizes.{Few}
-use Rattle.tam_eval.proofs.Answers.{Answered}
+use Rattle.tam_eval.proofs.KeptBySteps.{Steps, ready-later}
+use Rattle.tam_eval.proofs.FiringSteps.{same-state}
+use Rattle.tam_eval.proofs.WorldSizes.{Few}
+use Rattle.tam_eval.proofs.DeliverySends.{Answered}
 use Rattle.tam_eval.proofs.Charges.{Charge, asks, asks-none}
 
 module _ (g : Graph) (args : List ℕ) where
@@ -39,6 +39,7 @@ module _ (g : Graph) (args : List ℕ) where
   none-there : (i : ℕ) → IsThere nothing_begun i → ⊥
   none-there i h = let l : i < 0 = h in omega arith
 
+  -- at the opening nothing has run
   nothing-runs : RunsStand g nothing
   nothing-runs = record {
     ran_there = λ i b k h. absurd (true≢false (sym h));

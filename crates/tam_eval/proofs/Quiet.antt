@@ -21,13 +21,14 @@ use Rattle.tam_split.proofs.Firers.{Firer, Giver, value-inner, firer-block, fire
 use Rattle.tam_flow.specs.Worlds.{activation_at, its_code, has_word, has_entered}
 use Rattle.tam_flow.specs.Journals.{State, Event, Run, Deliver, has_run, on_their_way, may_follow, may_run, may_arrive}
 use Rattle.tam_flow.specs.Reached.{IsReached}
-use Rattle.tam_flow.proofs.SingleRuns.{BlockThere, MayRun, may_run-parts, test-below, classes, may_run-word, ran-before}
+use Rattle.tam_flow.proofs.SingleRuns.{BlockThere, MayRun, may_run-parts, classes, may_run-word, ran-before}
 use Rattle.tam_flow.proofs.OnTheWay.{none-on_way}
 use Rattle.tam_eval.specs.GraphRuns.{is_enabled}
 use Rattle.tam_eval.proofs.Follows.{parts-is_enabled, Follows}
-use Rattle.tam_eval.proofs.Caught.{reached-placed}
-use Rattle.tam_eval.proofs.Sends.{line-at}
+use Rattle.tam_eval.proofs.StepsCaughtUp.{reached-placed}
+use Rattle.tam_eval.proofs.FiringSends.{line-at}
 use Rattle.tam_eval.proofs.Running.{below-some}
+use Rattle.tam_word.proofs.Tests.{test-below}
 
 -- ---- operands
 
@@ -59,6 +60,7 @@ is_cond_kind (Cond p y n) = true
 is_cond_kind _ = false
 
 module _ (g : Graph) (acc : IsAccepted g) (n : ℕ) (l : n < length g.codes) where
+  -- the code of the activation
   abbrev c : Code
   c = code_of g n
 

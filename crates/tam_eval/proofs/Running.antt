@@ -19,15 +19,16 @@ use Rattle.tam_msgs.specs.Messages.{AreLimits}
 use Rattle.tam_istr.specs.Cells.{Arrays, cells_used}
 use Rattle.tam_flow.specs.Worlds.{World, Delivery, Went, Printed, Faulted, Fault, Second_store, Outside_cells, delivered, fired}
 use Rattle.tam_flow.specs.Journals.{State, Event, Deliver, on_their_way, may_follow}
-use Rattle.tam_flow.proofs.SingleRuns.{test-below}
+use Rattle.tam_word.proofs.Tests.{test-below}
 use Rattle.tam_eval.specs.GraphRuns.{GraphState, graph_step, chosen, some_ready, refusal, delivered_unless, after_delivery, end_of}
 use Rattle.tam_eval.proofs.Follows.{Follows, graph_of}
 use Rattle.tam_eval.proofs.Charges.{Charge, Charged, charge-charged, charged-same}
-use Rattle.tam_eval.proofs.Gives.{fired-arrays}
-use Rattle.tam_eval.proofs.Sizes.{Few, fired-size, SizedAfter, delivered-sized}
-use Rattle.tam_eval.proofs.Caught.{GoesOn, AllReached, goes-then, reached-on}
-use Rattle.tam_eval.proofs.Firing.{GoesTo, firing-goes, some-may as fire_may}
-use Rattle.tam_eval.proofs.Delivering.{DeliveryGoes, delivery-goes, FewAfter, taken, get-in, some-may as come_may}
+use Rattle.tam_eval.proofs.WorldSizes.{Few, fired-size, SizedAfter, delivered-sized}
+use Rattle.tam_eval.proofs.StepsCaughtUp.{GoesOn, AllReached, goes-then, reached-on}
+use Rattle.tam_eval.proofs.FiringSteps.{GoesTo, firing-goes, some-may as fire_may}
+use Rattle.tam_eval.proofs.DeliverySteps.{DeliveryGoes, delivery-goes, FewAfter, taken, some-may as come_may}
+use Rattle.tam_word.proofs.Members.{get-in}
+use Rattle.tam_flow.proofs.DeliveryChanges.{arrays-fired}
 
 -- ---- ends
 
@@ -134,7 +135,7 @@ module _ (g : Graph) (acc : IsAccepted g) (args : List ℕ) (limits : Limits) (s
   sized-fired : (i x : ℕ) → Sized limits (fired g s.world i x).world (made + 1)
   sized-fired i x = let a = sized.activations in let b = sized.arrays in record {
     activations = subst (λ n. n ≤ limits.frames) (sym (fired-size g s.world i x)) a;
-    arrays = subst (λ (rows : Arrays). length rows ≤ made + 1) (sym (fired-arrays g s.world i x)) (omega arith);
+    arrays = subst (λ (rows : Arrays). length rows ≤ made + 1) (sym (arrays-fired g s.world i x)) (omega arith);
   }
 
   -- what became ready first fires
@@ -225,6 +226,7 @@ module _ (g : Graph) (acc : IsAccepted g) (args : List ℕ) (limits : Limits) (s
     after-sized e p = let a = sized.activations in let b = sized.arrays in
         delivered-sized s.world limits.frames (made + 1) m a (omega arith) (begin-room m e)
 
+    -- within the budget, activations and arrays stay few
     few-after : (d : Delivery) → (made == limits.budget) ≡ false → SizedAfter limits.frames (made + 1) d → FewAfter d
     few-after (Went e) p z =
         let n = number-differs made limits.budget p in

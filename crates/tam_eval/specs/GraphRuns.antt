@@ -1,13 +1,16 @@
 -- A run of a graph: one event is the firing of one vertex or the delivery of one message.
-use Rattle.std.specs.Prelude.{ℕ, ◌+◌, Bool, true, false, not, ◌==◌, nat_lt, List, [], ◌∷◌, ◌++◌, map, filter, flat_map, Option, Some, None, slice_get, length, zip}
+use Rattle.std.specs.Prelude.{ℕ, ◌+◌, Bool, true, false, not, ◌==◌, nat_lt, List, [], ◌∷◌, ◌++◌, map, filter, flat_map, Option, Some, None, slice_get, length}
+use Rattle.std.specs.Prelude.{zip}
 use Rattle.tam_word.specs.Lists.{below, all_of, without_place}
 use Rattle.tam_msgs.specs.declared.message.Message.{Message}
 use Rattle.tam_msgs.specs.declared.message.Message.TheVariants.{Frame as Begin, Cells as Make}
 use Rattle.tam_msgs.specs.declared.limits.Limits.{Limits}
 use Rattle.tam_graph.specs.Graphs.{Graph, code_of, kind_at, block_at, operands_of, fires, node_numbers, results_of}
 use Rattle.tam_istr.specs.Cells.{cells_used}
-use Rattle.tam_flow.specs.Worlds.{World, Effect, Delivery, Went, Printed, Faulted, Fault, Second_store, Outside_cells, its_code, has_word, has_entered, fired, delivered, opening, argument_message}
-use Rattle.tam_msgs.specs.Runs.{choice, End, Quiet, Double_write, Out_of_range, Frames_full, Cells_full, Budget_spent, Outcome, Next, Ended, run_from, Report, text_of}
+use Rattle.tam_flow.specs.Worlds.{World, Effect, Delivery, Went, Printed, Faulted, Fault, Second_store, Outside_cells, its_code, has_word, has_entered, fired}
+use Rattle.tam_flow.specs.Worlds.{delivered, opening, argument_message}
+use Rattle.tam_msgs.specs.Runs.{choice, End, Quiet, Double_write, Out_of_range, Frames_full, Cells_full, Budget_spent, Outcome, Next, Ended, run_from, Report}
+use Rattle.tam_msgs.specs.Runs.{text_of}
 use Rattle.tam_msgs.specs.declared.choice.Choice.{Choice}
 use Rattle.tam_msgs.specs.declared.choice.Choice.TheVariants.{Quiet as Choose_quiet, Run as Choose_run, Deliver as Choose_delivery}
 use Rattle.tam_msgs.specs.declared.item.Item.{Item}
@@ -35,7 +38,10 @@ is_enabled g w i x =
 -- the vertices that may fire after an event and might not before it, rising
 abbrev pub joins_at : Graph → World → World → ℕ → List (ℕ × ℕ)
 joins_at g before after i =
-    map (λ x. (i, x)) (filter (λ x. elim (is_enabled g after i x) [ false ↦ false | true ↦ not (is_enabled g before i x) ]) (node_numbers (its_code g after i)))
+    map (λ x. (
+      i,
+      x,
+    )) (filter (λ x. elim (is_enabled g after i x) [ false ↦ false | true ↦ not (is_enabled g before i x) ]) (node_numbers (its_code g after i)))
 
 -- the same of all activations
 abbrev pub joins : Graph → World → World → List (ℕ × ℕ)
@@ -84,8 +90,14 @@ counted s rest = record s { order = rest; events = s.events + 1 }
 -- what was chosen is done, unless the budget is spent
 abbrev pub chosen : Graph → Limits → GraphState → Choice × List Item → Outcome GraphState
 chosen g limits s (Choose_quiet, rest) = Ended Quiet s
-chosen g limits s (Choose_run, rest) = elim (s.events == limits.budget) [ true ↦ Ended (Budget_spent s.events) s | false ↦ fired_first g (counted s rest) s.ready ]
-chosen g limits s (Choose_delivery k, rest) = elim (s.events == limits.budget) [ true ↦ Ended (Budget_spent s.events) s | false ↦ delivered_at g limits (counted s rest) k (slice_get s.pending k) ]
+chosen g limits s (
+  Choose_run,
+  rest,
+) = elim (s.events == limits.budget) [ true ↦ Ended (Budget_spent s.events) s | false ↦ fired_first g (counted s rest) s.ready ]
+chosen g limits s (
+  Choose_delivery k,
+  rest,
+) = elim (s.events == limits.budget) [ true ↦ Ended (Budget_spent s.events) s | false ↦ delivered_at g limits (counted s rest) k (slice_get s.pending k) ]
 
 -- something is ready
 abbrev pub some_ready : List (ℕ × ℕ) → Bool

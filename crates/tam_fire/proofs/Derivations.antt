@@ -2,7 +2,9 @@
 use Rattle.std.proofs.Common.{[], ◌∷◌, refl, arith, ◌<◌}
 use Rattle.tam_word.specs.declared.op.Op.TheVariants.{Add}
 use Rattle.tam_graph.specs.ExampleGraphs.{back_graph, loop_graph, seq_graph}
-use Rattle.tam_fire.specs.FiringRules.{Word, Activation, Array, Begun, Entered, Val, Fired, body_is_entered, const_gives, op_gives, seq_gives, outlet_fires, call_begins, call_answers, arg_comes, result_comes, alloc_answers, fetch_answers, cond_enters, switch_comes, out_comes, root_has_begun, param_has, Holds, Result}
+use Rattle.tam_fire.specs.FiringRules.{Word, Activation, Array, Begun, Entered, Val, Fired, body_is_entered, const_gives, op_gives, seq_gives, outlet_fires}
+use Rattle.tam_fire.specs.FiringRules.{call_begins, call_answers, arg_comes, result_comes, alloc_answers, fetch_answers, cond_enters, switch_comes, out_comes}
+use Rattle.tam_fire.specs.FiringRules.{root_has_begun, param_has, Holds, Result}
 use Rattle.tam_fire.proofs.Following.{holds-by}
 
 -- the callee's second param is its first result, which comes back through the caller
@@ -14,13 +16,19 @@ back-gives =
     let callee : Holds back_graph (4 ∷ []) (Val [] 1 (Activation (1 ∷ []))) = holds-by _ _ (call_answers refl) (called, tt) in
     let begun : Holds back_graph (4 ∷ []) (Begun (1 ∷ [])) = holds-by _ _ (call_begins refl) (called, tt) in
     let body : Holds back_graph (4 ∷ []) (Entered (1 ∷ []) 0) = holds-by _ _ body_is_entered (begun, tt) in
-    let sent : Holds back_graph (4 ∷ []) (Fired [] 2 (Word 4 ∷ Activation (1 ∷ []) ∷ [])) = holds-by _ _ (outlet_fires refl refl) (root, (four, (callee, tt))) in
+    let sent : Holds back_graph (4 ∷ []) (Fired [] 2 (Word 4 ∷ Activation (1 ∷ []) ∷ [])) = holds-by _ _ (outlet_fires refl refl) (
+      root,
+      (four, (callee, tt)),
+    ) in
     let first : Holds back_graph (4 ∷ []) (Val (1 ∷ []) 0 (Word 4)) = holds-by _ _ (arg_comes refl refl) (sent, tt) in
     let one : Holds back_graph (4 ∷ []) (Val (1 ∷ []) 2 (Word 1)) = holds-by _ _ (const_gives refl) (body, tt) in
     let five : Holds back_graph (4 ∷ []) (Val (1 ∷ []) 3 (Word 5)) = holds-by _ _ (op_gives {a = 4} {b = 1} {o = Add} refl) (body, (first, (one, tt))) in
     let given : Holds back_graph (4 ∷ []) (Fired (1 ∷ []) 5 (Word 5 ∷ [])) = holds-by _ _ (outlet_fires refl refl) (body, (five, tt)) in
     let back : Holds back_graph (4 ∷ []) (Val [] 3 (Word 5)) = holds-by _ _ (result_comes refl refl) (given, tt) in
-    let again : Holds back_graph (4 ∷ []) (Fired [] 4 (Word 5 ∷ Activation (1 ∷ []) ∷ [])) = holds-by _ _ (outlet_fires refl refl) (root, (back, (callee, tt))) in
+    let again : Holds back_graph (4 ∷ []) (Fired [] 4 (Word 5 ∷ Activation (1 ∷ []) ∷ [])) = holds-by _ _ (outlet_fires refl refl) (
+      root,
+      (back, (callee, tt)),
+    ) in
     let second : Holds back_graph (4 ∷ []) (Val (1 ∷ []) 1 (Word 5)) = holds-by _ _ (arg_comes refl refl) (again, tt) in
     let ten : Holds back_graph (4 ∷ []) (Val (1 ∷ []) 4 (Word 10)) = holds-by _ _ (op_gives {a = 5} {b = 5} {o = Add} refl) (body, (second, (five, tt))) in
     let more : Holds back_graph (4 ∷ []) (Fired (1 ∷ []) 6 (Word 10 ∷ [])) = holds-by _ _ (outlet_fires refl refl) (body, (ten, tt)) in
@@ -54,7 +62,10 @@ seq-gives =
     let place : Holds seq_graph (9 ∷ []) (Val [] 3 (Word 0)) = holds-by _ _ (const_gives refl) (root, tt) in
     let asked : Holds seq_graph (9 ∷ []) (Fired [] 2 (Word 1 ∷ [])) = holds-by _ _ (outlet_fires refl refl) (root, (one, tt)) in
     let array : Holds seq_graph (9 ∷ []) (Val [] 2 (Array [] 2)) = holds-by _ _ (alloc_answers refl) (asked, tt) in
-    let stored : Holds seq_graph (9 ∷ []) (Fired [] 5 (Array [] 2 ∷ Word 0 ∷ Word 9 ∷ [])) = holds-by _ _ (outlet_fires refl refl) (root, (array, (place, (nine, tt)))) in
+    let stored : Holds seq_graph (9 ∷ []) (Fired [] 5 (Array [] 2 ∷ Word 0 ∷ Word 9 ∷ [])) = holds-by _ _ (outlet_fires refl refl) (
+      root,
+      (array, (place, (nine, tt))),
+    ) in
     let fetched : Holds seq_graph (9 ∷ []) (Fired [] 4 (Array [] 2 ∷ Word 0 ∷ [])) = holds-by _ _ (outlet_fires refl refl) (root, (array, (place, tt))) in
     let inside : 0 < 1 = omega arith in
     let answer : Holds seq_graph (9 ∷ []) (Val [] 4 (Word 9)) = holds-by _ _ (fetch_answers refl refl inside) (fetched, (stored, (asked, tt))) in

@@ -2,10 +2,13 @@
 use Rattle.std.proofs.Common.{◌≡◌, ℕ, ◌<◌, List, [], ◌∷◌, Some, slice_get, length, refl, inl, inr, ◌⊎◌, ⊎_elim, IsTrue}
 use Rattle.std.specs.List.{AllByRecursion}
 use Rattle.tam_graph.specs.declared.kind.Kind.{Kind}
-use Rattle.tam_graph.specs.declared.kind.Kind.TheVariants.{Param, Const, Op as Operate, Seq, Call, Arg, Ret, Give, Alloc, Fetch, Store, Cond, Switch, Merge, Enter, Leave}
+use Rattle.tam_graph.specs.declared.kind.Kind.TheVariants.{Param, Const, Op as Operate, Seq, Call, Arg, Ret, Give, Alloc, Fetch, Store, Cond, Switch, Merge}
+use Rattle.tam_graph.specs.declared.kind.Kind.TheVariants.{Enter, Leave}
 use Rattle.tam_word.specs.Words.{meaning}
 use Rattle.tam_graph.specs.Graphs.{Graph, operands_of, is_outlet, chosen_branch}
-use Rattle.tam_fire.specs.FiringRules.{Path, Value, Word, Activation, Array, Fact, Begun, Entered, Val, Fired, Rule, body_is_entered, const_gives, op_gives, seq_gives, outlet_fires, call_begins, call_answers, arg_comes, result_comes, alloc_answers, fetch_answers, cond_enters, switch_comes, out_comes, node_of, block_of, the_code, values, Given, root_has_begun, param_has, Holds}
+use Rattle.tam_fire.specs.FiringRules.{Path, Value, Word, Activation, Array, Fact, Begun, Entered, Val, Fired, Rule, body_is_entered, const_gives, op_gives}
+use Rattle.tam_fire.specs.FiringRules.{seq_gives, outlet_fires, call_begins, call_answers, arg_comes, result_comes, alloc_answers, fetch_answers, cond_enters}
+use Rattle.tam_fire.specs.FiringRules.{switch_comes, out_comes, node_of, block_of, the_code, values, Given, root_has_begun, param_has, Holds}
 use Rattle.tam_fire.proofs.Following.{holds-from}
 
 -- where the value v of node x comes from, by what the node does
@@ -20,9 +23,12 @@ Source g args K q x v (Call c) = (v ≡ Activation (x ∷ q)) × K (Fired q x []
 Source g args K q x v (Ret f k) = (y a : ℕ) × (node_of g (f ∷ q) y ≡ Give k a) × K (Fired (f ∷ q) y (v ∷ []))
 Source g args K q x v (Alloc a) = (n : ℕ) × (v ≡ Array q x) × K (Fired q x (Word n ∷ []))
 Source g args K q x v (Fetch a b) =
-    (r p : Path) × (y z i n c d e : ℕ) × (node_of g r y ≡ Store c d e) × (i < n) × K (Fired q x (Array p z ∷ Word i ∷ [])) × K (Fired r y (Array p z ∷ Word i ∷ v ∷ [])) × K (Fired p z (Word n ∷ []))
-Source g args K q x v (Enter k) = (y c a w : ℕ) × (node_of g q y ≡ Switch c k a) × (block_of g q x ≡ chosen_branch (the_code g q) c w) × K (Fired q y (Word w ∷ v ∷ []))
-Source g args K q x v (Merge c k) = (y a : ℕ) × (node_of g q y ≡ Leave k a) × (slice_get (the_code g q).owners (block_of g q y) ≡ Some (Some c)) × K (Fired q y (v ∷ []))
+    (r p : Path) × (y z i n c d e : ℕ) × (node_of g r y ≡ Store c d e) × (i < n) × K (Fired q x (Array p z ∷ Word i ∷ []))
+    × K (Fired r y (Array p z ∷ Word i ∷ v ∷ [])) × K (Fired p z (Word n ∷ []))
+Source g args K q x v (Enter k) = (y c a w : ℕ) × (node_of g q y ≡ Switch c k a) × (block_of g q x ≡ chosen_branch (the_code g q) c w)
+    × K (Fired q y (Word w ∷ v ∷ []))
+Source g args K q x v (Merge c k) = (y a : ℕ) × (node_of g q y ≡ Leave k a) × (slice_get (the_code g q).owners (block_of g q y) ≡ Some (Some c))
+    × K (Fired q y (v ∷ []))
 Source g args K q x v (Arg f k a) = ⊥
 Source g args K q x v (Give k a) = ⊥
 Source g args K q x v (Store a i b) = ⊥

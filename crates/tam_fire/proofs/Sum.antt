@@ -5,7 +5,8 @@ use Rattle.tam_word.specs.declared.op.Op.TheVariants.{Add}
 use Rattle.tam_word.specs.Words.{meaning}
 use Rattle.tam_graph.specs.ExampleGraphs.{sum_graph, sum_main}
 use Rattle.tam_graph.specs.Graphs.{callee_of, kind_at}
-use Rattle.tam_fire.specs.FiringRules.{Path, Word, Entered, Val, Fired, body_is_entered, op_gives, outlet_fires, node_of, code_at, root_has_begun, param_has, Holds, Result}
+use Rattle.tam_fire.specs.FiringRules.{Path, Word, Entered, Val, Fired, body_is_entered, op_gives, outlet_fires, node_of, code_at, root_has_begun, param_has}
+use Rattle.tam_fire.specs.FiringRules.{Holds, Result}
 use Rattle.tam_fire.proofs.Following.{holds-by}
 use Rattle.tam_fire.proofs.Inversion.{Source, value-from, fired-from}
 

@@ -2,7 +2,8 @@
 use Rattle.std.specs.Prelude.{ℕ, zero, suc, ◌<◌, ◌≤◌, ◌≡◌, ◌≢◌, ◌⊎◌, List, [], ◌∷◌, Some, slice_get, length, sum_by, All, AllPairs, IsTrue, ⊤}
 use Rattle.std.specs.List.{AllByRecursion}
 use Rattle.tam_graph.specs.declared.kind.Kind.{Kind}
-use Rattle.tam_graph.specs.declared.kind.Kind.TheVariants.{Param, Const, Op as Operate, Seq, Call, Arg, Ret, Give, Alloc, Fetch, Store, Cond, Switch, Merge, Enter, Leave}
+use Rattle.tam_graph.specs.declared.kind.Kind.TheVariants.{Param, Const, Op as Operate, Seq, Call, Arg, Ret, Give, Alloc, Fetch, Store, Cond, Switch, Merge}
+use Rattle.tam_graph.specs.declared.kind.Kind.TheVariants.{Enter, Leave}
 use Rattle.tam_word.specs.declared.op.Op.{Op}
 use Rattle.tam_word.specs.Words.{meaning}
 use Rattle.tam_graph.specs.Graphs.{Code, Graph, code_of, kind_at, block_at, operands_of, is_outlet, callee_of, chosen_branch}

@@ -1,5 +1,6 @@
 -- What the two lists of an activation say: which blocks it has entered, and which word each node has got; and what one more entry does to that.
-use Rattle.std.proofs.Common.{◌≡◌, ℕ, zero, suc, Bool, true, false, List, [], ◌∷◌, Option, Some, None, slice_index_or, is_some, option_to_list, refl, sym, ap, ◌∙◌, inl, inr, ◌⊎◌, ⊎_elim, true≢false}
+use Rattle.std.proofs.Common.{◌≡◌, ℕ, zero, suc, Bool, true, false, List, [], ◌∷◌, Option, Some, None, slice_index_or, is_some, option_to_list, refl, sym, ap}
+use Rattle.std.proofs.Common.{◌∙◌, inl, inr, ◌⊎◌, ⊎_elim, true≢false}
 use Rattle.tam_word.specs.Lists.{put_at}
 use Rattle.tam_word.proofs.PutAt.{put_at-here, put_at-cases}
 

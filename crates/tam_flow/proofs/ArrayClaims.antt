@@ -1,5 +1,5 @@
 -- Arrays at rest: an alloc answers, a fetch gets the word that a store put, no cell is stored twice, and no access is outside.
-use Rattle.std.proofs.Common.{◌≡◌, ℕ, zero, suc, ◌<◌, List, [], ◌∷◌, true, refl, sym, subst, ap, ap₂, inl, inr, ◌⊎◌, ⊎_elim, ◌∙◌, length, arith, Some}
+use Rattle.std.proofs.Common.{◌≡◌, ℕ, suc, ◌<◌, List, [], ◌∷◌, true, refl, sym, subst, ap, ap₂, inl, inr, ◌⊎◌, ⊎_elim, ◌∙◌, length, Some}
 use Rattle.std.proofs.Common.{slice_get}
 use Rattle.std.specs.Prelude.{Contains, Option}
 use Rattle.std.proofs.lemmas.Option.{slice_get_within}
@@ -12,7 +12,7 @@ use Rattle.tam_istr.specs.Cells.{Cell, Reader, Empty, Filled}
 use Rattle.tam_graph.specs.Graphs.{Graph, operands_of}
 use Rattle.tam_graph.specs.Accepted.{IsAccepted}
 use Rattle.tam_graph.proofs.Depths.{alloc-depth, fetch-depth, store-depth}
-use Rattle.tam_graph.proofs.Lines.{NoCall, alloc-line, fetch-line, store-line}
+use Rattle.tam_graph.proofs.NamedNodes.{NoCall, alloc-line, fetch-line, store-line}
 use Rattle.tam_split.specs.GraphPartitions.{Partitions, are_valid}
 use Rattle.tam_fire.specs.FiringRules.{Path, Value, Word, Array, Fired, node_of, IsStore, IsAccess}
 use Rattle.tam_flow.specs.Worlds.{activation_at, its_code}
@@ -22,6 +22,7 @@ use Rattle.tam_flow.specs.Reached.{kind_of, depth_of, IsThere, maker_of, cells_a
 use Rattle.tam_flow.proofs.Quiet.{IsAtRest, sent-arrived, number-arrived}
 use Rattle.tam_flow.proofs.Claims.{ValueClaim, same-meaning, word-meaning, array-meaning, one-word, kind-here, same-number, claim-inlet, carry-has}
 use Rattle.tam_flow.proofs.RuleClaims.{word-eq, array-eq, words-of}
+use Rattle.tam_flow.proofs.Firings.{some-depth}
 
 -- ---- equal parts
 
@@ -32,11 +33,6 @@ suc-eq a b h = cc
 -- of pairs in an option
 pair-eq : (a b c d : ℕ) → ◌≡◌ {A = Option (ℕ × ℕ)} (Some (a, b)) (Some (c, d)) → (a ≡ c) × (b ≡ d)
 pair-eq a b c d h = let e : ◌≡◌ {A = ℕ × ℕ} (a, b) (c, d) = cc in (ap (λ (p : ℕ × ℕ). p.0) e, ap (λ (p : ℕ × ℕ). p.1) e)
-
--- a number above 0 follows one
-after-some : (d : ℕ) → 0 < d → (e : ℕ) × (d ≡ suc e)
-after-some zero h = absurd (grind arith)
-after-some (suc e) h = (e, refl)
 
 -- ---- kinds
 
@@ -147,7 +143,7 @@ module _ (g : Graph) (all : Partitions) (args : List ℕ) (s : State) (acc : IsA
         let u = words.0.0 in
         let made = reached.arrivals.made u i x (sent-arrived g all s rest (Make u i x) (reached.outlets.alloc_sent i x a u ran k words.0.1)) in
         let come = carry-has g all args s reached rest valid i x made.0 num.0 made.4 in
-        let deep = after-some (depth_of g s.world i x) (alloc-depth g acc (activation_at s.world i).code (reached.activations.codes i num.0) x a k).1 in
+        let deep = some-depth (depth_of g s.world i x) (alloc-depth g acc (activation_at s.world i).code (reached.activations.codes i num.0) x a k).1 in
         let means : array_of s.world made.0 ≡ Array q x =
         ap (λ (m : ℕ × ℕ). Array (path_of s.world m.0) m.1) made.2 ∙ ap (λ p. Array p x) num.1 in
         claim-inlet g all args s reached q x (Array q x) i made.0 (rw e refl) num come
@@ -258,7 +254,10 @@ module _ (g : Graph) (all : Partitions) (args : List ℕ) (s : State) (acc : IsA
     array-length p y len u l same (i, num, out, ran, have) =
         let parts = array-eq p (path_of s.world (maker_of s.world u).0) y (maker_of s.world u).1 same in
         let made = reached.arrays.lengths u l in
-        let one : (maker_of s.world u).0 ≡ i = same-number g all args s reached p (maker_of s.world u).0 i (reached.arrays.makers_there u l, sym parts.0) num in
+        let one : (maker_of s.world u).0 ≡ i = same-number g all args s reached p (maker_of s.world u).0 i (
+          reached.arrays.makers_there u l,
+          sym parts.0,
+        ) num in
         let k : kind_of g s.world i y ≡ Alloc made.0 =
         subst (λ z. kind_of g s.world z y ≡ Alloc made.0) one (subst (λ z. kind_of g s.world (maker_of s.world u).0 z ≡ Alloc made.0)
         (sym parts.1) made.1) in

@@ -1,5 +1,6 @@
 -- What a wish for an activation and a word to the outside have done, once they arrived.
-use Rattle.std.proofs.Common.{◌≡◌, ℕ, zero, suc, ◌^◌, ◌<◌, Bool, true, false, ◌==◌, List, [], ◌∷◌, ◌++◌, Option, Some, None, is_none, length, slice_get, Contains, refl, sym, ap, ◌∙◌, arith, subst, inl, inr, ◌⊎◌, ⊎_elim, true≢false}
+use Rattle.std.proofs.Common.{◌≡◌, ℕ, zero, suc, ◌^◌, ◌<◌, Bool, true, false, ◌==◌, List, [], ◌∷◌, ◌++◌, Option, Some, None, is_none, length, slice_get}
+use Rattle.std.proofs.Common.{Contains, refl, sym, ap, ◌∙◌, arith, subst, inl, inr, ◌⊎◌, ⊎_elim, true≢false}
 use Rattle.std.proofs.lemmas.List.{length-append}
 use Rattle.std.proofs.lemmas.List.Elements.{Contains-append_left, Contains-append_right}
 use Rattle.tam_word.specs.Lists.{any_of, has}
@@ -11,7 +12,8 @@ use Rattle.tam_msgs.specs.Messages.{outside}
 use Rattle.tam_split.specs.GraphPartitions.{Partitions, are_valid}
 use Rattle.tam_fire.specs.FiringRules.{code_at}
 use Rattle.tam_flow.specs.Worlds.{World, Delivery, Went, Printed, Faulted, delivered, activation_at, begun}
-use Rattle.tam_flow.specs.Journals.{State, Event, Run, Deliver, initial, class_fired, or_message, after_delivery, deliver_all, after_event, may_run, may_follow, is_legal_from, state_from, state_after}
+use Rattle.tam_flow.specs.Journals.{State, Event, Run, Deliver, initial, class_fired, or_message, after_delivery, deliver_all, after_event, may_run, may_follow}
+use Rattle.tam_flow.specs.Journals.{is_legal_from, state_from, state_after}
 use Rattle.tam_flow.specs.Told.{path_of}
 use Rattle.tam_flow.specs.JournalLaws.{IsJournal}
 use Rattle.tam_flow.specs.Reached.{IsThere, WasSent, HasArrived}
@@ -21,9 +23,10 @@ use Rattle.tam_flow.proofs.Growing.{Grows, with_begun, grows-begun, path-begun}
 use Rattle.tam_flow.proofs.Justified.{IsMessage}
 use Rattle.tam_flow.proofs.CellChanges.{some-eq}
 use Rattle.tam_flow.proofs.Deliveries.{IsSoundDelivery, not-outside, deliver, some-below, there-some}
-use Rattle.tam_flow.proofs.Lengths.{size-from}
+use Rattle.tam_flow.proofs.ActivationCounts.{size-from}
 use Rattle.tam_flow.proofs.SoundStates.{IsSoundState, runnable, run-effect, opened, sound-event, sound-initial, sound-journal}
-use Rattle.tam_flow.proofs.Once.{IsOnceState, once-journal, nil-cons}
+use Rattle.tam_flow.proofs.SentOnce.{IsOnceState, nil-cons}
+use Rattle.tam_flow.proofs.DeliveredOnce.{once-journal}
 use Rattle.tam_flow.proofs.ReachedParts.{caller-path, root-path}
 use Rattle.tam_flow.proofs.Sending.{sent-event}
 
@@ -38,17 +41,19 @@ pub record IsArrivedState (s : State) : Type 0 where
   pub printed : (n k v : ℕ) → slice_get s.sent n ≡ Some (Carry outside k v) → has s.arrived n ≡ true → Contains s.printed (k, v)
 
 -- which number has arrived
-arrived-cases : (m : ℕ) (xs : List ℕ) (n : ℕ) → has (m ∷ xs) n ≡ true → (m ≡ n) ⊎ (has xs n ≡ true)
+pub arrived-cases : (m : ℕ) (xs : List ℕ) (n : ℕ) → has (m ∷ xs) n ≡ true → (m ≡ n) ⊎ (has xs n ≡ true)
 arrived-cases m xs n h = go (m == n) refl
   where
     go : (b : Bool) → (m == n) ≡ b → (m ≡ n) ⊎ (has xs n ≡ true)
     go true e = inl (number-eq m n e)
     go false e = inr (rw (any_of, e) at h)
 
+-- a wish for an activation is of a caller that is there
 begin-there : (g : Graph) (args : List ℕ) (w : World) (c f x : ℕ) → IsMessage g args w (Begin c f x) → IsThere w f
 begin-there g args w c f x h = h.1.0
 
 module _ (g : Graph) (args : List ℕ) (accepted : IsAccepted g) (all : Partitions) where
+  -- at the beginning nothing has arrived
   arrived-initial : IsArrivedState (initial g args)
   arrived-initial = record {
     sent_before = λ n h. absurd (true≢false (sym h));
@@ -68,7 +73,8 @@ module _ (g : Graph) (args : List ℕ) (accepted : IsAccepted g) (all : Partitio
     wish-there n c f x e = begin-there g args s.world c f x (all-at_place (IsMessage g args s.world) s.sent n (Begin c f x) sound.sent e)
 
     -- where messages are only added behind, what had arrived is what it was
-    old-message : (v : State) → ((n : ℕ) (m : Message) → slice_get s.sent n ≡ Some m → slice_get v.sent n ≡ Some m) → (n : ℕ) (m : Message) → n < length s.sent
+    old-message : (v : State) → ((n : ℕ) (m : Message) → slice_get s.sent n ≡ Some m → slice_get v.sent n ≡ Some m) → (n : ℕ) (m : Message)
+        → n < length s.sent
         → slice_get v.sent n ≡ Some m → slice_get s.sent n ≡ Some m
     old-message v sent n m l e = go (slice_get s.sent n) refl
       where
@@ -76,6 +82,7 @@ module _ (g : Graph) (args : List ℕ) (accepted : IsAccepted g) (all : Partitio
         go None d = absurd (there-some s.sent n l d)
         go (Some k) d = d ∙ sym (sent n k d) ∙ e
 
+    -- a run keeps what arrived
     arrived-run : (i b c : ℕ) → are_valid g all ≡ true → may_run g all s i b c ≡ true → IsArrivedState (after_event g all s (Run i b c))
     arrived-run i b c valid may = record {
       sent_before = λ n h. let l = done.sent_before n h in omega (arith, length-append s.sent (class_fired g all s i b c).sends, l);
@@ -157,6 +164,7 @@ module _ (g : Graph) (args : List ℕ) (accepted : IsAccepted g) (all : Partitio
           subst (λ o. Contains (after_delivery s m (delivered s.world o)).printed (k, u)) (sym e)
           (Contains-append_right s.printed ((k, u) ∷ []) (k, u) (0, omega arith, refl))
 
+    -- and so does each event
     arrived-event : (e : Event) → are_valid g all ≡ true → length s.world.activations < 2 ^ 32 → may_follow g all s e ≡ true
         → IsArrivedState (after_event g all s e)
     arrived-event (Run i b c) valid few may = arrived-run i b c valid (and-right (is_none s.fault) (may_run g all s i b c) may)
@@ -169,6 +177,7 @@ module _ (g : Graph) (args : List ℕ) (accepted : IsAccepted g) (all : Partitio
             (deliver g args s.world sound.world few (opened g args accepted) x (all-at_place (IsMessage g args s.world) s.sent m x sound.sent e))
             (begins-it m x e few) (prints-it m x e)
 
+  -- and each legal journal
   arrived-from : (s : State) (es : List Event) → are_valid g all ≡ true → length (state_from g all s es).world.activations < 2 ^ 32 → IsSoundState g args s
       → IsArrivedState s
       → is_legal_from g all s es ≡ true → IsArrivedState (state_from g all s es)

@@ -1,5 +1,6 @@
 -- A call whose class ran has sent its wish for an activation.
-use Rattle.std.proofs.Common.{◌≡◌, ℕ, ◌^◌, ◌<◌, Bool, true, false, ◌==◌, ◌&&◌, List, [], ◌∷◌, ◌++◌, Option, Some, None, is_none, length, slice_get, refl, sym, ap, ◌∙◌, arith, subst, inl, true≢false}
+use Rattle.std.proofs.Common.{◌≡◌, ℕ, ◌^◌, ◌<◌, Bool, true, false, ◌==◌, ◌&&◌, List, [], ◌∷◌, ◌++◌, Option, Some, None, is_none, length, slice_get, refl, sym}
+use Rattle.std.proofs.Common.{ap, ◌∙◌, arith, subst, inl, true≢false}
 use Rattle.std.specs.List.{AllByRecursion}
 use Rattle.tam_word.specs.Lists.{any_of, has}
 use Rattle.tam_graph.specs.declared.kind.Kind.{Kind}
@@ -12,7 +13,8 @@ use Rattle.tam_split.specs.Blocks.{BlockGraph, block_graph, vertex_at}
 use Rattle.tam_split.specs.Partitions.{class_at}
 use Rattle.tam_split.specs.GraphPartitions.{Partitions, parts_of, are_valid, firing_order}
 use Rattle.tam_flow.specs.Worlds.{World, Effect, Delivery, Went, Printed, Faulted, delivered, activation_at, its_code, firing_of, fired}
-use Rattle.tam_flow.specs.Journals.{State, Event, Run, Deliver, initial, fire_each, class_fired, has_run, block_of_act, parts_of_act, or_message, after_delivery, deliver_all, after_event, may_run, may_follow, is_legal_from, state_from, state_after}
+use Rattle.tam_flow.specs.Journals.{State, Event, Run, Deliver, initial, fire_each, class_fired, has_run, block_of_act, parts_of_act, or_message}
+use Rattle.tam_flow.specs.Journals.{after_delivery, deliver_all, after_event, may_run, may_follow, is_legal_from, state_from, state_after}
 use Rattle.tam_flow.specs.JournalLaws.{IsJournal}
 use Rattle.tam_flow.specs.Reached.{IsThere, kind_of, WasSent}
 use Rattle.tam_flow.proofs.Growing.{Grows, grows-same}
@@ -21,10 +23,10 @@ use Rattle.tam_word.proofs.Each.{all-at_place, get-left}
 use Rattle.tam_flow.proofs.Justified.{IsMessage}
 use Rattle.tam_flow.proofs.Deliveries.{IsSoundEffect, IsSoundDelivery, deliver, some-below}
 use Rattle.tam_flow.proofs.SoundStates.{IsSoundState, IsRunnable, runnable, run-effect, order-ready, opened, sound-event, sound-initial}
-use Rattle.tam_flow.proofs.Once.{HasFired}
+use Rattle.tam_flow.proofs.SentOnce.{HasFired}
 use Rattle.tam_flow.proofs.Acyclic.{order-all}
 use Rattle.tam_flow.proofs.Sending.{sent-event}
-use Rattle.tam_flow.proofs.Lengths.{then_one, size-from}
+use Rattle.tam_flow.proofs.ActivationCounts.{then_one, size-from}
 use Rattle.tam_flow.proofs.ClassRuns.{IsReady, sound-one}
 use Rattle.tam_word.proofs.Members.{In, left-in, right-in, in-has, in-get}
 
@@ -47,6 +49,7 @@ module _ (g : Graph) (b : BlockGraph) (i : ℕ) where
       go true d = rw (then_one, d) h
       go false d = rw (then_one, d) (left-in m e.sends (fired g e.world i (vertex_at b y).node).sends h)
 
+  -- what was sent stays sent as further vertices fire
   each-keeps : (e : Effect) (ys : List ℕ) (m : Message) → In m e.sends → In m (fire_each g b i e ys).sends
   each-keeps e [] m h = h
   each-keeps e (y ∷ ys) m h = each-keeps (then_one g b i e y) ys m (one-keeps e y m h)
@@ -108,6 +111,7 @@ module _ (g : Graph) (args : List ℕ) (accepted : IsAccepted g) (all : Partitio
         }) (subst (λ m. kind_at (code_of g m) f ≡ Call c) same kind) in
         (r.0, sent r.0 (Begin c i f) r.1)
 
+    -- after a run each call that fired has sent its wish
     calls-run : (i b c : ℕ) → are_valid g all ≡ true → may_run g all s i b c ≡ true → CallsSent (after_event g all s (Run i b c))
     calls-run i b c valid may j f k h kind = go ((i == j) && ((b == h.block) && (c == h.class))) refl
       where
@@ -161,6 +165,7 @@ module _ (g : Graph) (args : List ℕ) (accepted : IsAccepted g) (all : Partitio
             calls-later (after_event g all s (Run i b c)) effect.grows (sent-event g all s (Run i b c)) j f k h.block h.class h.place h.code h.is_code
             (rw (any_of, e) at h.ran) h.inside h.within h.no_inlet h.node kind
 
+    -- after a delivery too
     calls-delivery : (m : ℕ) (d : Delivery) → IsSoundDelivery g args s.world d → CallsSent (after_delivery s m d)
     calls-delivery m (Went e) effect i f c h kind =
         calls-later (after_delivery s m (Went e)) effect.grows
@@ -173,6 +178,7 @@ module _ (g : Graph) (args : List ℕ) (accepted : IsAccepted g) (all : Partitio
         calls-later (after_delivery s m (Faulted q)) (grows-same s.world)
         (λ n o k. k) i f c h.block h.class h.place h.code h.is_code h.ran h.inside h.within h.no_inlet h.node kind
 
+    -- so after each event
     calls-event : (e : Event) → are_valid g all ≡ true → length s.world.activations < 2 ^ 32 → may_follow g all s e ≡ true → CallsSent (after_event g all s e)
     calls-event (Run i b c) valid few may = calls-run i b c valid (and-right (is_none s.fault) (may_run g all s i b c) may)
     calls-event (Deliver m) valid few may = go (slice_get s.sent m) refl
@@ -183,6 +189,7 @@ module _ (g : Graph) (args : List ℕ) (accepted : IsAccepted g) (all : Partitio
             calls-delivery m (delivered s.world x)
             (deliver g args s.world sound.world few (opened g args accepted) x (all-at_place (IsMessage g args s.world) s.sent m x sound.sent e))
 
+  -- and after each legal journal
   calls-from : (s : State) (es : List Event) → are_valid g all ≡ true → length (state_from g all s es).world.activations < 2 ^ 32 → IsSoundState g args s
       → CallsSent s
       → is_legal_from g all s es ≡ true → CallsSent (state_from g all s es)

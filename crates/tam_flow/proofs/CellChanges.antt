@@ -1,5 +1,6 @@
 -- A new array, and a cell that changes, leave a world that has its reasons.
-use Rattle.std.proofs.Common.{◌≡◌, ℕ, zero, suc, ◌<◌, List, [], ◌∷◌, ◌++◌, Option, Some, None, length, slice_get, slice_set, replicate, unwrap_or, refl, sym, ap, ◌∙◌, arith, subst, inl, inr, ◌⊎◌, ⊎_elim}
+use Rattle.std.proofs.Common.{◌≡◌, ℕ, zero, suc, ◌<◌, List, [], ◌∷◌, ◌++◌, Option, Some, None, length, slice_get, slice_set, replicate, unwrap_or, refl, sym}
+use Rattle.std.proofs.Common.{ap, ◌∙◌, arith, subst, inl, inr, ◌⊎◌, ⊎_elim}
 use Rattle.std.proofs.lemmas.List.{length-append, length-replicate, length-set}
 use Rattle.tam_graph.specs.declared.kind.Kind.TheVariants.{Alloc}
 use Rattle.tam_istr.specs.Cells.{Cell, Empty, Arrays, with_array, with_cell}
@@ -13,9 +14,11 @@ use Rattle.tam_flow.proofs.Growing.{Grows, grows-arrays, grows-made}
 use Rattle.tam_flow.proofs.Justified.{IsArray, IsMade, IsCell, IsSoundWorld, made-later, cell-later, number-later}
 use Rattle.tam_flow.proofs.Changes.{set-cases, sound-arrays}
 
+-- nothing is no element
 pub none-some : {A : Type 0} {a : A} → None ≡ Some a → ⊥
 none-some q = cc
 
+-- equal options have equal elements
 pub some-eq : {A : Type 0} {a b : A} → Some a ≡ Some b → a ≡ b
 some-eq q = cc
 
@@ -47,6 +50,7 @@ module _ (g : Graph) (args : List ℕ) where
   abbrev pub with_made : World → ℕ → ℕ → ℕ → World
   with_made w n f x = record w { arrays = with_array w.arrays n; makers = w.makers ++ (f, x) ∷ [] }
 
+  -- the new array is that of its alloc
   pub new-array : (w : World) (n f x : ℕ) (q : Path) → IsNumber w q f → IsArray (with_made w n f x) q x (length w.makers)
   new-array w n f x q number = record {
     below = omega (arith, length-append w.makers ((f, x) ∷ []));
@@ -58,6 +62,7 @@ module _ (g : Graph) (args : List ℕ) where
       made : maker_of (with_made w n f x) (length w.makers) ≡ (f, x)
       made = ap or_maker (get-last w.makers (f, x))
 
+  -- a world with the new array has its reasons
   pub sound-made : (w : World) (n f x c : ℕ) (q : Path) → IsSoundWorld g args w → IsNumber w q f → node_of g q x ≡ Alloc c
       → Holds g args (Fired q x (Word n ∷ []))
       → IsSoundWorld g args (with_made w n f x)
@@ -101,6 +106,7 @@ module _ (g : Graph) (args : List ℕ) where
   abbrev pub with_changed_cell : World → ℕ → ℕ → Cell → World
   with_changed_cell w a j c = record w { arrays = with_cell w.arrays a j c }
 
+  -- a world with the changed cell has its reasons
   pub sound-cell : (w : World) (a j : ℕ) (c : Cell) → IsSoundWorld g args w → IsCell g args w a j c → IsSoundWorld g args (with_changed_cell w a j c)
   sound-cell w a j c sound reason =
       sound-arrays g args w (with_changed_cell w a j c) grows refl sound

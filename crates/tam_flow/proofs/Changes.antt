@@ -1,5 +1,6 @@
 -- Each change of a world that has its reasons leaves a world that has them.
-use Rattle.std.proofs.Common.{◌≡◌, ℕ, zero, suc, ◌<◌, true, false, ◌==◌, List, [], ◌∷◌, Some, length, slice_get, slice_set, refl, sym, ap, ◌∙◌, arith, subst, inl, inr, ◌⊎◌, ⊎_elim}
+use Rattle.std.proofs.Common.{◌≡◌, ℕ, zero, suc, ◌<◌, true, false, ◌==◌, List, [], ◌∷◌, Some, length, slice_get, slice_set, refl, sym, ap, ◌∙◌, arith, subst}
+use Rattle.std.proofs.Common.{inl, inr, ◌⊎◌, ⊎_elim}
 use Rattle.std.proofs.lemmas.List.{length-append}
 use Rattle.tam_word.specs.Lists.{changed_at}
 use Rattle.tam_graph.specs.declared.kind.Kind.TheVariants.{Call}
@@ -17,7 +18,7 @@ use Rattle.tam_flow.proofs.Growing.{Grows, KeepsPlace, with_changed, grows-chang
 use Rattle.tam_flow.proofs.Justified.{IsValue, IsMade, IsCell, IsSoundWorld, value-later, made-later, cell-later}
 
 -- where one element of a list is changed, each is what it was, or it is the changed one
-changed-cases : (n i : ℕ) (f : ActivationState → ActivationState) (xs : List ActivationState)
+pub changed-cases : (n i : ℕ) (f : ActivationState → ActivationState) (xs : List ActivationState)
     → (or_activation (slice_get (changed_at n f xs) i) ≡ or_activation (slice_get xs i))
     ⊎ ((n ≡ i) × (or_activation (slice_get (changed_at n f xs) i) ≡ f (or_activation (slice_get xs i))))
 changed-cases n i f [] = inl refl
@@ -167,7 +168,8 @@ module _ (g : Graph) (args : List ℕ) where
           (sym (last i e))
           (grows.there f number.0, path i e ∙ ap (λ p. x ∷ p) (sym (grows.path f number.0 ∙ number.1)))
 
-      old_block : (i b : ℕ) → IsThere w i → was_entered (activation_at (with_begun w c f x) i).entered b ≡ true → BlockHolds (path_of (with_begun w c f x) i) b
+      old_block : (i b : ℕ) → IsThere w i → was_entered (activation_at (with_begun w c f x) i).entered b ≡ true
+          → BlockHolds (path_of (with_begun w c f x) i) b
       old_block i b l h = subst (λ p. BlockHolds p b) (sym (grows.path i l)) (sound.blocks i b l (subst (λ a. was_entered a.entered b ≡ true) (same i l) h))
 
       body : BlockHolds (x ∷ q) 0

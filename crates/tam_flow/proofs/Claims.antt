@@ -60,7 +60,8 @@ meant-plain w k zero u n = refl
 meant-plain w k (suc d) u n = refl
 
 -- the same at two nodes of one depth
-pub same-meaning : (w : World) (k l : Kind) (d e u : ℕ) → ((c : ℕ) → k ≡ Call c → ⊥) → ((c : ℕ) → l ≡ Call c → ⊥) → d ≡ e → meant_at w k d u ≡ meant_at w l e u
+pub same-meaning : (w : World) (k l : Kind) (d e u : ℕ) → ((c : ℕ) → k ≡ Call c → ⊥) → ((c : ℕ) → l ≡ Call c → ⊥) → d ≡ e
+    → meant_at w k d u ≡ meant_at w l e u
 same-meaning w k l d e u n m p = meant-plain w k d u n ∙ (ap (λ z. plain w z u) p ∙ sym (meant-plain w l e u m))
 
 -- at depth 0 it is the word
@@ -145,7 +146,8 @@ module _ (g : Graph) (all : Partitions) (args : List ℕ) (s : State) (reached :
     carry-has f x v there sent = reached.arrivals.carried f x v (sent-arrived g all s rest (Carry f x v) sent) (not-outside f there)
 
     -- an outlet of a block that was entered has run, where each inlet on which its operands depend has a word
-    pub outlet-ran : (i x : ℕ) → IsThere s.world i → is_outlet (kind_of g s.world i x) ≡ true → has_entered s.world i (block_at (its_code g s.world i) x) ≡ true
+    pub outlet-ran : (i x : ℕ) → IsThere s.world i → is_outlet (kind_of g s.world i x) ≡ true
+        → has_entered s.world i (block_at (its_code g s.world i) x) ≡ true
         → ((a : ℕ) → In a (operands_of (its_code g s.world i) (kind_of g s.world i x)) → Depends (its_code g s.world i) (HasSome s i) a) → Ran g all s i x
     outlet-ran i x there out entered each = at (outlet-place (its_code g s.world i) x out)
       where

@@ -1,5 +1,6 @@
 -- The run of a class that may run leaves a world that has its reasons, and sends messages that have theirs.
-use Rattle.std.proofs.Common.{◌≡◌, ℕ, zero, suc, ◌<◌, Bool, true, false, ◌==◌, not, List, [], ◌∷◌, filter, Option, Some, None, length, slice_get, nat_lt, refl, sym, subst}
+use Rattle.std.proofs.Common.{◌≡◌, ℕ, zero, suc, ◌<◌, Bool, true, false, ◌==◌, not, List, [], ◌∷◌, filter, Option, Some, None, length, slice_get, nat_lt, refl}
+use Rattle.std.proofs.Common.{sym, subst}
 use Rattle.std.specs.List.{AllByRecursion}
 use Rattle.tam_word.specs.Lists.{all_of, first_of, below}
 use Rattle.tam_graph.specs.Graphs.{Graph, Code, code_of, kind_at, block_at, blocks_of, nodes_in, is_split}
@@ -21,7 +22,7 @@ use Rattle.tam_flow.proofs.Justified.{IsMessage, messages-later}
 use Rattle.tam_flow.proofs.Deliveries.{IsSoundEffect, there-some}
 use Rattle.tam_flow.proofs.Nodes.{block-each}
 use Rattle.tam_flow.proofs.Firings.{fired-sound}
-use Rattle.tam_flow.proofs.Lengths.{then_one}
+use Rattle.tam_flow.proofs.ActivationCounts.{then_one}
 
 -- the order in which a class fires has no other places
 pub taken-each : (P : ℕ → Type 0) (n : ℕ) (es : Edges) (left : List ℕ) → AllByRecursion P left → AllByRecursion P (taken_first n es left)
@@ -38,6 +39,7 @@ taken-each P (suc n) es left h = go (first_of (waits_for_none es left) left) ref
               (all-filter P (λ y. not (y == x)) left h)),
         )
 
+-- what each place of a class has, each has in the order of firing
 pub order-each : (P : ℕ → Type 0) (es : Edges) (class : List ℕ) → AllByRecursion P class → AllByRecursion P (firing_order es class)
 order-each P es class h = taken-each P (length class) es class h
 
@@ -45,6 +47,7 @@ order-each P es class h = taken-each P (length class) es class h
 abbrev pub IsOfBlock : Code → ℕ → Vertex → Type 0
 IsOfBlock c b v = (v.node < length c.nodes) × (block_at c v.node ≡ b)
 
+-- each vertex of a block is of a node of it
 vertices-each : (c : Code) (b : ℕ) → AllByRecursion (IsOfBlock c b) (block_graph c b).vertices
 vertices-each c b =
     all-flat (IsOfBlock c b) (λ x. vertices_of x (kind_at c x)) (nodes_in c b)
@@ -66,6 +69,7 @@ vertex-each c b y l = go (slice_get (block_graph c b).vertices y) refl
     go None e = absurd (there-some (block_graph c b).vertices y l e)
     go (Some v) e = all-at_place (IsOfBlock c b) (block_graph c b).vertices y v (vertices-each c b) e
 
+-- what each place of each class has, each place of one class has
 class-at : (P : ℕ → Type 0) (parts : Parts) (c : ℕ) → AllByRecursion (AllByRecursion P) parts → AllByRecursion P (class_at parts c)
 class-at P parts c h = go (slice_get parts c) refl
   where
@@ -96,6 +100,7 @@ module _ (g : Graph) (args : List ℕ) (accepted : IsAccepted g) (w : World) (i 
       (vertex_at b y).inlet ≡ false
       → ((vertex_at b y).node < length (its_code g w i).nodes) × Holds g args (Entered (path_of w i) (block_at (its_code g w i) (vertex_at b y).node))
 
+  -- one more vertex that is ready fires, and the effect keeps its reasons
   pub sound-one : (b : BlockGraph) (e : Effect) (y : ℕ) → IsSoundEffect g args w e → IsReady b y → IsSoundEffect g args w (then_one g b i e y)
   sound-one b e y sound ready = go (vertex_at b y).inlet refl
     where
@@ -106,7 +111,11 @@ module _ (g : Graph) (args : List ℕ) (accepted : IsAccepted g) (w : World) (i 
           let inside = subst (λ n. (vertex_at b y).node < length (code_of g n).nodes) (sym code) (ready d).0 in
           let opened = subst (λ n. Holds g args (Entered (path_of e.world i) (block_at (code_of g n) (vertex_at b y).node))) (sym code)
           (subst (λ q. Holds g args (Entered q (block_at (its_code g w i) (vertex_at b y).node))) (sym (sound.grows.path i there)) (ready d).1) in
-          let f = fired-sound g args accepted e.world sound.world i (sound.grows.there i there) (vertex_at b y).node inside opened in
+          let f = fired-sound (record {
+            stands = record { accepted = accepted; sound = sound.world; there = sound.grows.there i there };
+            inside = inside;
+            open_block = opened;
+          }) in
           rw (then_one, d) (record {
             world = f.world;
             grows = grows-on w e.world (fired g e.world i (vertex_at b y).node).world sound.grows f.grows;
@@ -114,6 +123,7 @@ module _ (g : Graph) (args : List ℕ) (accepted : IsAccepted g) (w : World) (i 
                 (messages-later g args e.world (fired g e.world i (vertex_at b y).node).world f.grows e.sends sound.sends) f.sends;
           })
 
+  -- and so with each of them in turn
   pub sound-each : (b : BlockGraph) (e : Effect) (ys : List ℕ) → IsSoundEffect g args w e → AllByRecursion (IsReady b) ys
       → IsSoundEffect g args w (fire_each g b i e ys)
   sound-each b e [] sound ready = sound

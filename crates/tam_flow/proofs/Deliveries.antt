@@ -1,5 +1,6 @@
 -- The delivery of a message that has its reason leaves a world that has its reasons, and sends messages that have theirs; a fault has its reason too.
-use Rattle.std.proofs.Common.{◌≡◌, ℕ, zero, suc, ◌^◌, ◌<◌, ◌≤◌, Bool, true, false, ◌==◌, List, [], ◌∷◌, ◌++◌, Option, Some, None, length, slice_get, unwrap_or, refl, sym, ap, ◌∙◌, arith, tests, subst, inl, inr}
+use Rattle.std.proofs.Common.{◌≡◌, ℕ, zero, suc, ◌^◌, ◌<◌, ◌≤◌, Bool, true, false, ◌==◌, List, [], ◌∷◌, ◌++◌, Option, Some, None, length, slice_get, unwrap_or}
+use Rattle.std.proofs.Common.{refl, sym, ap, ◌∙◌, arith, tests, subst, inl, inr}
 use Rattle.std.specs.List.{AllByRecursion}
 use Rattle.std.proofs.lemmas.List.{length-append}
 use Rattle.tam_graph.specs.declared.kind.Kind.{Kind}
@@ -9,7 +10,8 @@ use Rattle.tam_msgs.specs.declared.message.Message.TheVariants.{Word as Carry, F
 use Rattle.tam_msgs.specs.Messages.{outside, site, answers}
 use Rattle.tam_istr.specs.Cells.{Cell, Empty, Filled, in_array, fetch_of, store_of}
 use Rattle.tam_graph.specs.Graphs.{Graph, code_of}
-use Rattle.tam_fire.specs.FiringRules.{Path, Value, Word, Activation, Array, Val, Fired, Holds, IsAccess, node_of, code_at, call_answers, alloc_answers, fetch_answers}
+use Rattle.tam_fire.specs.FiringRules.{Path, Value, Word, Activation, Array, Val, Fired, Holds, IsAccess, node_of, code_at, call_answers, alloc_answers}
+use Rattle.tam_fire.specs.FiringRules.{fetch_answers}
 use Rattle.tam_fire.proofs.Following.{holds-by}
 use Rattle.tam_flow.specs.Worlds.{World, Effect, changes, Delivery, Went, Printed, Faulted, Fault, Second_store, Outside_cells, accessed, delivered, got, begun}
 use Rattle.tam_flow.specs.Told.{IsNumber}
@@ -59,15 +61,19 @@ IsSoundDelivery g args w (Faulted f) = IsFault g args w f
 pub array-path : (w : World) (p q : Path) (y z a : ℕ) → IsArray w p y a → IsArray w q z a → p ≡ q
 array-path w p q y z a h k = sym h.number.1 ∙ k.number.1
 
+-- an array of one path is of one alloc
 pub array-alloc : (w : World) (p q : Path) (y z a : ℕ) → IsArray w p y a → IsArray w q z a → y ≡ z
 array-alloc w p q y z a h k = sym h.alloc ∙ k.alloc
 
+-- a call is no fetch
 kinds-differ : (k : Kind) (c : ℕ) → k ≡ Call c → (b d : ℕ) → k ≡ Fetch b d → ⊥
 kinds-differ k c e b d f = cc
 
+-- and no alloc
 alloc-no_call : (k : Kind) (c : ℕ) → k ≡ Call c → (b : ℕ) → k ≡ Alloc b → ⊥
 alloc-no_call k c e b f = cc
 
+-- equal depths above 0 are one more than equal depths
 same-depth : (a b c d : ℕ) → a ≡ suc b → c ≡ suc d → a ≡ c → d ≡ b
 same-depth a b c d e f h = omega arith
 
@@ -77,6 +83,7 @@ none-past [] n e = omega arith
 none-past (x ∷ xs) zero e = absurd (none-some (sym e))
 none-past (x ∷ xs) (suc n) e = let l = none-past xs n e in omega arith
 
+-- a place where something stands is below the length
 pub some-below : {X : Type 0} (xs : List X) (n : ℕ) {x : X} → slice_get xs n ≡ Some x → n < length xs
 some-below [] n e = absurd (none-some e)
 some-below (x ∷ xs) zero e = omega arith
@@ -140,7 +147,11 @@ module _ (g : Graph) (args : List ℕ) where
     deliver-carry f x u h = go (f == outside) refl h
       where
         give : (q : Path) × IsNumber w q f × IsValue g args w q x u → IsSoundEffect g args w (changes (got w f x u))
-        give k = record { world = sound-got g args w f x u sound (subst (λ q. IsValue g args w q x u) (sym k.1.1) k.2); grows = grows-got w f x u; sends = tt }
+        give k = record {
+          world = sound-got g args w f x u sound (subst (λ q. IsValue g args w q x u) (sym k.1.1) k.2);
+          grows = grows-got w f x u;
+          sends = tt;
+        }
 
         go : (b : Bool) → (f == outside) ≡ b → IsMessage g args w (Carry f x u) → IsSoundDelivery g args w (delivered w (Carry f x u))
         go true e k = rw (delivered, e) tt

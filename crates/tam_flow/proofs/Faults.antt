@@ -13,9 +13,10 @@ use Rattle.tam_flow.specs.Journals.{State, state_after}
 use Rattle.tam_flow.specs.JournalLaws.{FaultsAreGiven}
 use Rattle.tam_flow.proofs.Justified.{IsPutBy}
 use Rattle.tam_flow.proofs.Deliveries.{IsOutside, array-path, array-alloc, some-below, code-there}
-use Rattle.tam_flow.proofs.Small.{few-nodes, site-is}
+use Rattle.tam_flow.proofs.FewNodes.{few-nodes, site-is}
 use Rattle.tam_flow.proofs.SoundStates.{IsSoundState, sound-journal}
-use Rattle.tam_flow.proofs.Once.{IsDouble, IsOnceState, once-journal}
+use Rattle.tam_flow.proofs.SentOnce.{IsDouble, IsOnceState}
+use Rattle.tam_flow.proofs.DeliveredOnce.{once-journal}
 use Rattle.tam_word.proofs.Tests.{below-test}
 
 -- a node that accesses cells is there
@@ -26,6 +27,7 @@ access-there c x h = go (slice_get c.nodes x) refl h
     go None e k = absurd k
     go (Some n) e k = some-below c.nodes x e
 
+-- a store is an access
 store-access : (k : Kind) → IsStore k → IsAccess k
 store-access (Store a i b) h = tt
 store-access k h = absurd h

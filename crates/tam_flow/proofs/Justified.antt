@@ -120,9 +120,11 @@ pub record IsSoundWorld (g : Graph) (args : List ℕ) (w : World) : Type 0 where
 -- ---- reasons stay
 
 module _ (g : Graph) (args : List ℕ) (w v : World) (grows : Grows w v) where
+  -- a path's number stays its number
   pub number-later : (q : Path) (i : ℕ) → IsNumber w q i → IsNumber v q i
   number-later q i h = (grows.there i h.0, grows.path i h.0 ∙ h.1)
 
+  -- an array stays its alloc's
   pub array-later : (p : Path) (z a : ℕ) → IsArray w p z a → IsArray v p z a
   array-later p z a h = record {
     below = grows.numbers a h.below;
@@ -130,17 +132,21 @@ module _ (g : Graph) (args : List ℕ) (w v : World) (grows : Grows w v) where
     alloc = ap (λ m. m.1) (grows.maker a h.below) ∙ h.alloc;
   }
 
+  -- a word stands for what it stood for
   pub stands-later : (d u : ℕ) (x : Value) → StandsFor g w d u x → StandsFor g v d u x
   stands-later zero u x h = h
   stands-later (suc d) u x h = (h.0, h.1, array-later h.0 h.1 u h.2, h.3, h.4)
 
+  -- and means what it meant
   pub means-later : (q : Path) (x u : ℕ) (y : Value) → Means g w q x u y → Means g v q x u y
   means-later q x u y (inl h) = inl (h.0, h.1, number-later (x ∷ q) u h.2, h.3)
   means-later q x u y (inr h) = inr (h.0, stands-later (depth_in g q x) u y h.1)
 
+  -- its reason stays a reason
   pub value-later : (q : Path) (x u : ℕ) → IsValue g args w q x u → IsValue g args v q x u
   value-later q x u h = record { value = h.value; means = means-later q x u h.value h.means; holds = h.holds }
 
+  -- so does that of a reader
   pub asked-later : (a j f x : ℕ) → IsAsked g args w a j f x → IsAsked g args v a j f x
   asked-later a j f x h = record {
     q = h.q;
@@ -155,6 +161,7 @@ module _ (g : Graph) (args : List ℕ) (w v : World) (grows : Grows w v) where
     fired = h.fired;
   }
 
+  -- that of what one store put
   pub put_by-later : (f y a j u t : ℕ) → IsPutBy g args w f y a j u t → IsPutBy g args v f y a j u t
   put_by-later f y a j u t h = record {
     q = h.q;
@@ -174,16 +181,20 @@ module _ (g : Graph) (args : List ℕ) (w v : World) (grows : Grows w v) where
     fired = h.fired;
   }
 
+  -- that of what was put
   pub put-later : (a j u t : ℕ) → IsPut g args w a j u t → IsPut g args v a j u t
   put-later a j u t h = (h.0, h.1, put_by-later h.0 h.1 a j u t h.2)
 
+  -- that of an array
   pub made-later : (a n : ℕ) → IsMade g args w a n → IsMade g args v a n
   made-later a n h = record { p = h.p; z = h.z; c = h.c; array = array-later h.p h.z a h.array; allocs = h.allocs; fired = h.fired }
 
+  -- that of a cell
   pub cell-later : (a j : ℕ) (c : Cell) → IsCell g args w a j c → IsCell g args v a j c
   cell-later a j (Empty rs) h = all-more (λ r. IsAsked g args w a j r.0 r.1) (λ r. IsAsked g args v a j r.0 r.1) (λ r k. asked-later a j r.0 r.1 k) rs h
   cell-later a j (Filled u t) h = put-later a j u t h
 
+  -- that of a message
   pub message-later : (m : Message) → IsMessage g args w m → IsMessage g args v m
   message-later (Carry f x u) (inl h) = inl h
   message-later (Carry f x u) (inr h) = inr (h.0, number-later h.0 f h.1, value-later h.0 x u h.2)
@@ -192,5 +203,6 @@ module _ (g : Graph) (args : List ℕ) (w v : World) (grows : Grows w v) where
   message-later (Ask_cell a j f x t) h = (asked-later a j f x h.0, h.1 ∙ ap (λ c. site c x) (sym (grows.code f h.0.number.0)))
   message-later (Put_cell a j u t) h = put-later a j u t h
 
+  -- and those of messages
   pub messages-later : (ms : List Message) → AllByRecursion (IsMessage g args w) ms → AllByRecursion (IsMessage g args v) ms
   messages-later ms h = all-more (IsMessage g args w) (IsMessage g args v) message-later ms h

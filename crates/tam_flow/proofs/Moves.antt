@@ -20,6 +20,7 @@ use Rattle.tam_flow.specs.Worlds.{has_word, has_entered, with_word, with_block, 
 use Rattle.tam_flow.specs.Worlds.{accessed, delivered}
 use Rattle.tam_flow.specs.Reached.{IsThere}
 use Rattle.tam_flow.proofs.ActivationLists.{was_entered, entered-stays, has_among, has-stays, has-cases}
+use Rattle.tam_word.proofs.Each.{length-changed_at}
 
 -- what an event leaves; Just are the nodes that fired
 pub record Moves (g : Graph) (Just : ℕ → ℕ → Type 0) (w v : World) : Type 0 where
@@ -42,14 +43,8 @@ changed-cases zero (suc j) f (x ∷ xs) = inl refl
 changed-cases (suc i) zero f (x ∷ xs) = inl refl
 changed-cases (suc i) (suc j) f (x ∷ xs) = elim (changed-cases i j f xs) [ inl e ↦ inl e | inr r ↦ inr (ap suc r.0, r.1) ]
 
--- as many elements
-pub length-changed : (i : ℕ) (f : ActivationState → ActivationState) (xs : List ActivationState) → length (changed_at i f xs) ≡ length xs
-length-changed i f [] = refl
-length-changed zero f (x ∷ xs) = refl
-length-changed (suc i) f (x ∷ xs) = ap suc (length-changed i f xs)
-
 -- an element of a list with one more is the list's, or it is that one, behind all others
-push-cases : (xs : List ActivationState) (y : ActivationState) (j : ℕ)
+pub push-cases : (xs : List ActivationState) (y : ActivationState) (j : ℕ)
     → (slice_get (xs ++ y ∷ []) j ≡ slice_get xs j) ⊎ ((slice_get xs j ≡ None) × (slice_get (xs ++ y ∷ []) j ≡ Some y) × (j ≡ length xs))
 push-cases [] y zero = inr (refl, refl, refl)
 push-cases [] y (suc j) = inl refl
@@ -111,7 +106,7 @@ module _ (g : Graph) (Just : ℕ → ℕ → Type 0) (w : World) where
   moves-changed : (v : World) (i : ℕ) (f : ActivationState → ActivationState) → Keeps f (IsNew i) → Moves g Just w v
       → Moves g Just w (record v { activations = changed_at i f v.activations })
   moves-changed v i f k m = record {
-    there = λ j h. let l : j < length v.activations = m.there j h in subst (λ n. j < n) (sym (length-changed i f v.activations)) l;
+    there = λ j h. let l : j < length v.activations = m.there j h in subst (λ n. j < n) (sym (length-changed_at i f v.activations)) l;
     codes = λ j h. code j (changed-cases i j f v.activations) ∙ m.codes j h;
     words_stay = λ j y h. stay j y (changed-cases i j f v.activations) (m.words_stay j y h);
     entered_stay = λ j b h. block j b (changed-cases i j f v.activations) (m.entered_stay j b h);
@@ -128,7 +123,8 @@ module _ (g : Graph) (Just : ℕ → ℕ → Type 0) (w : World) where
 
       block : (j b : ℕ) → ChangedCases v i f j → has_entered v j b ≡ true → has_entered (changed_world v i f) j b ≡ true
       block j b (inl e) h = ap (λ o. was_entered (or_activation o).entered b) e ∙ h
-      block j b (inr (q, (a, e, d))) h = ap (λ o. was_entered (or_activation o).entered b) d ∙ k.block a b (sym (ap (λ o. was_entered (or_activation o).entered b) e) ∙ h)
+      block j b (inr (q, (a, e, d))) h =
+          ap (λ o. was_entered (or_activation o).entered b) d ∙ k.block a b (sym (ap (λ o. was_entered (or_activation o).entered b) e) ∙ h)
 
       new : (j y : ℕ) → ChangedCases v i f j → has_word (changed_world v i f) j y ≡ true → (has_word w j y ≡ true) ⊎ IsNew j y
       new j y (inl e) h = m.words_new j y (sym (ap (λ o. act_has (or_activation o) y) e) ∙ h)
@@ -206,14 +202,17 @@ param-inlet : (k : ℕ) (d : Kind) → is_param k d ≡ true → is_inlet d ≡ 
 param-inlet k (Param j) h = refl
 param-inlet k d h = absurd (true≢false (sym h))
 
+-- so does the test of rets
 ret-inlet : (f k : ℕ) (d : Kind) → is_ret f k d ≡ true → is_inlet d ≡ true
 ret-inlet f k (Ret e j) h = refl
 ret-inlet f k d h = absurd (true≢false (sym h))
 
+-- that of merges
 merge-inlet : (c k : ℕ) (d : Kind) → is_merge c k d ≡ true → is_inlet d ≡ true
 merge-inlet c k (Merge e j) h = refl
 merge-inlet c k d h = absurd (true≢false (sym h))
 
+-- and that of enters
 enter-inlet : (k : ℕ) (d : Kind) → is_enter k d ≡ true → is_inlet d ≡ true
 enter-inlet k (Enter j) h = refl
 enter-inlet k d h = absurd (true≢false (sym h))

@@ -1,5 +1,6 @@
 -- Lists in which no two elements meet, and the places of a block: one vertex fires for a node, and each place is in one class.
-use Rattle.std.proofs.Common.{◌≡◌, ℕ, zero, suc, ◌<◌, Bool, true, false, ◌==◌, not, List, [], ◌∷◌, ◌++◌, filter, flat_map, Option, Some, None, length, slice_get, refl, sym, ap, ◌∙◌, arith, tests, subst, inl, inr, ◌⊎◌, ⊎_elim, true≢false}
+use Rattle.std.proofs.Common.{◌≡◌, ℕ, zero, suc, ◌<◌, Bool, true, false, ◌==◌, not, List, [], ◌∷◌, ◌++◌, filter, flat_map, Option, Some, None, length}
+use Rattle.std.proofs.Common.{slice_get, refl, sym, ap, ◌∙◌, arith, tests, subst, inl, inr, ◌⊎◌, ⊎_elim, true≢false}
 use Rattle.std.specs.List.{AllByRecursion}
 use Rattle.tam_word.specs.Lists.{first_of, below, has}
 use Rattle.tam_graph.specs.Graphs.{Graph, Code, code_of, kind_at, block_at, nodes_in, node_numbers, blocks_of, is_split}
@@ -20,6 +21,7 @@ abbrev pub Pairs : {X : Type 0} → (X → X → Type 0) → List X → Type 0
 Pairs R [] = Unit {0}
 Pairs R (x ∷ xs) = AllByRecursion (R x) xs × Pairs R xs
 
+-- in two lists joined no two meet where none do in each, and none of the one meets one of the other
 pub pairs-append : {X : Type 0} (R : X → X → Type 0) (xs ys : List X) → Pairs R xs → Pairs R ys → AllByRecursion (λ x. AllByRecursion (R x) ys) xs
     → Pairs R (xs ++ ys)
 pairs-append R [] ys h k c = k
@@ -34,6 +36,7 @@ pairs-at R (z ∷ xs) zero (suc n) x y h e d = inr (inl (subst (λ v. R v y) (so
 pairs-at R (z ∷ xs) (suc m) zero x y h e d = inr (inr (subst (λ v. R v x) (some-eq d) (all-at_place (R z) xs m x h.0 e)))
 pairs-at R (z ∷ xs) (suc m) (suc n) x y h e d = ⊎_elim (λ k. inl (ap suc k)) inr (pairs-at R xs m n x y h.1 e d)
 
+-- what a test leaves doesn't meet either
 pub pairs-filter : {X : Type 0} (R : X → X → Type 0) (test : X → Bool) (xs : List X) → Pairs R xs → Pairs R (filter test xs)
 pairs-filter R test [] h = tt
 pairs-filter R test (x ∷ xs) h = go (test x) refl (pairs-filter R test xs h.1)
@@ -63,6 +66,7 @@ pairs-flat R f (x ∷ xs) h k = pairs-append R (f x) (flat_map f xs) h.0 (pairs-
 
 -- ---- the nodes of a block differ
 
+-- the numbers below a number differ
 below-apart : (n : ℕ) → Pairs (λ x y. x ≡ y → ⊥) (below n)
 below-apart zero = tt
 below-apart (suc n) =
@@ -76,6 +80,7 @@ below-apart (suc n) =
 abbrev pub FireApart : Vertex → Vertex → Type 0
 FireApart u v = u.inlet ≡ false → v.inlet ≡ false → u.node ≡ v.node → ⊥
 
+-- no two vertices of a block fire for one node
 vertices-apart : (c : Code) (b : ℕ) → Pairs FireApart (block_graph c b).vertices
 vertices-apart c b =
     pairs-flat FireApart (λ x. vertices_of x (kind_at c x)) (nodes_in c b) (each (nodes_in c b))
@@ -133,6 +138,7 @@ fires-once c b y z l m p q r = go (slice_get (block_graph c b).vertices y) refl 
 
 -- ---- a place stands in one class
 
+-- where no element is left, none passes
 none-pass : {X : Type 0} (test : X → Bool) (xs : List X) (n : ℕ) (x : X) → length (filter test xs) ≡ 0 → slice_get xs n ≡ Some x → test x ≡ true → ⊥
 none-pass test [] n x l e p = none-some e
 none-pass test (y ∷ xs) n x l e p = go (test y) refl n e (λ m d k. none-pass test xs m x k d p)
@@ -142,7 +148,9 @@ none-pass test (y ∷ xs) n x l e p = go (test y) refl n e (λ m d k. none-pass 
     go false d zero k i = true≢false (sym p ∙ ap test (sym (some-eq k)) ∙ d)
     go false d (suc m) k i = i m k (rw d at l)
 
-one-passes : {X : Type 0} (test : X → Bool) (xs : List X) (m n : ℕ) (x y : X) → length (filter test xs) ≡ 1 → slice_get xs m ≡ Some x → slice_get xs n ≡ Some y
+-- where one is left, what passes stands at one place
+one-passes : {X : Type 0} (test : X → Bool) (xs : List X) (m n : ℕ) (x y : X) → length (filter test xs) ≡ 1 → slice_get xs m ≡ Some x
+    → slice_get xs n ≡ Some y
     → test x ≡ true → test y ≡ true → m ≡ n
 one-passes test [] m n x y l e d p q = absurd (none-some e)
 one-passes test (z ∷ xs) m n x y l e d p q = go (test z) refl m e n d (λ i j a b k. one-passes test xs i j x y k a b p q)
@@ -186,6 +194,7 @@ class-once g all n b c d y valid there inside l h k =
 abbrev pub NoTwice : List ℕ → Type 0
 NoTwice xs = Pairs (λ x y. x ≡ y → ⊥) xs
 
+-- what is taken in turn has no element twice where the list has none
 taken-once : (n : ℕ) (es : Edges) (left : List ℕ) → NoTwice left → NoTwice (taken_first n es left)
 taken-once zero es left h = h
 taken-once (suc n) es left h = go (first_of (waits_for_none es left) left) refl (λ l k. taken-once n es l k)
@@ -208,5 +217,6 @@ taken-once (suc n) es left h = go (first_of (waits_for_none es left) left) refl 
         other : (y : ℕ) → not (y == x) ≡ true → x ≡ y → ⊥
         other y k d = let same : (y == x) ≡ true = grind (arith, tests) in true≢false (sym k ∙ ap not same)
 
+-- so the order of firing has none twice where the class has none
 pub order-once : (es : Edges) (class : List ℕ) → NoTwice class → NoTwice (firing_order es class)
 order-once es class h = taken-once (length class) es class h

@@ -1,5 +1,6 @@
 -- Parts of the invariant that each state behind a legal journal has.
-use Rattle.std.proofs.Common.{◌≡◌, ℕ, zero, suc, ◌+◌, ◌<◌, Bool, true, false, ◌==◌, List, [], ◌∷◌, ◌++◌, Option, Some, None, length, slice_get, refl, sym, ap, ◌∙◌, arith, subst, inl, inr, ⊎_elim}
+use Rattle.std.proofs.Common.{◌≡◌, ℕ, zero, suc, ◌+◌, ◌<◌, Bool, true, false, ◌==◌, List, [], ◌∷◌, ◌++◌, Option, Some, None, length, slice_get, refl, sym, ap}
+use Rattle.std.proofs.Common.{◌∙◌, arith, subst, inl, inr, ⊎_elim}
 use Rattle.std.proofs.lemmas.List.{length-append}
 use Rattle.tam_msgs.specs.declared.message.Message.TheVariants.{Frame as Begin}
 use Rattle.tam_msgs.specs.Messages.{outside}
@@ -17,7 +18,7 @@ use Rattle.tam_flow.proofs.Justified.{IsMessage}
 use Rattle.tam_flow.proofs.CellChanges.{none-some, some-eq}
 use Rattle.tam_flow.proofs.Deliveries.{there-some}
 use Rattle.tam_flow.proofs.SoundStates.{IsSoundState}
-use Rattle.tam_flow.proofs.Once.{IsOnceState, IsBegunBy, cons-tail, nil-cons}
+use Rattle.tam_flow.proofs.SentOnce.{IsOnceState, IsBegunBy, cons-tail, nil-cons}
 use Rattle.tam_word.proofs.Tests.{number-eq}
 
 -- paths that are known stay in front
@@ -46,6 +47,7 @@ outside-path known (x ∷ xs) (suc j) a e o =
     subst (λ m. or_path (slice_get (paths_behind (known ++ path_behind known x ∷ []) xs) m) ≡ []) n
     (outside-path (known ++ path_behind known x ∷ []) xs j a e o)
 
+-- what the outside began has the root's path
 outside-root : (w : World) (j : ℕ) → IsThere w j → ((activation_at w j).caller == outside) ≡ true → path_of w j ≡ []
 outside-root w j t o = go (slice_get w.activations j) refl
   where

@@ -12,7 +12,7 @@ use Rattle.tam_graph.specs.Graphs.{test_of_kind}
 use Rattle.tam_graph.specs.Accepted.{IsAccepted}
 use Rattle.tam_graph.proofs.Depths.{const-depth, op-depth, seq-depth, arg-depth, ret-depth, cond-depth, leave-depth}
 use Rattle.tam_graph.proofs.Branches.{enter-depth}
-use Rattle.tam_graph.proofs.Lines.{op-line, seq-line, arg-line, give-line, cond-line, switch-line, leave-line}
+use Rattle.tam_graph.proofs.NamedNodes.{op-line, seq-line, arg-line, give-line, cond-line, switch-line, leave-line}
 use Rattle.tam_split.specs.GraphPartitions.{Partitions, are_valid}
 use Rattle.tam_split.proofs.Depends.{Depends}
 use Rattle.tam_fire.specs.FiringRules.{Path, Value, Word, Activation, Array, Begun, Entered, Fired, the_code, node_of, block_of, values}
@@ -50,7 +50,8 @@ module _ (g : Graph) (all : Partitions) (args : List ℕ) (s : State) (acc : IsA
     (valid : are_valid g all ≡ true) where
   -- the words of a node of a known kind
   pub words-of : (i y : ℕ) (k : Kind) (vs : List Value) → kind_of g s.world i y ≡ k
-      → HaveWords g s.world i (operands_of (its_code g s.world i) (kind_of g s.world i y)) vs → HaveWords g s.world i (operands_of (its_code g s.world i) k) vs
+      → HaveWords g s.world i (operands_of (its_code g s.world i) (kind_of g s.world i y)) vs
+      → HaveWords g s.world i (operands_of (its_code g s.world i) k) vs
   words-of i y k vs e h = subst (λ z. HaveWords g s.world i (operands_of (its_code g s.world i) z) vs) e h
 
   -- where a word of a node of a known kind comes from

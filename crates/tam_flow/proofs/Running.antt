@@ -1,5 +1,6 @@
 -- An outlet that ran has fired: its place is in a class that ran. So a call that ran has sent its wish.
-use Rattle.std.proofs.Common.{◌≡◌, ℕ, ◌<◌, Bool, true, false, ◌==◌, ◌&&◌, List, [], ◌∷◌, filter, Option, Some, None, length, slice_get, refl, sym, arith, subst, true≢false}
+use Rattle.std.proofs.Common.{◌≡◌, ℕ, ◌<◌, Bool, true, false, ◌==◌, ◌&&◌, List, [], ◌∷◌, filter, Option, Some, None, length, slice_get, refl, sym, arith, subst}
+use Rattle.std.proofs.Common.{true≢false}
 use Rattle.std.specs.List.{AllByRecursion}
 use Rattle.tam_word.specs.Lists.{any_of, has, below}
 use Rattle.tam_graph.specs.declared.kind.Kind.{Kind}
@@ -19,7 +20,7 @@ use Rattle.tam_word.proofs.Tests.{and-left, and-right, number-eq}
 use Rattle.tam_word.proofs.Each.{all-of_each, each-below, below-each, all-flat, all-filter, all-at_place}
 use Rattle.tam_flow.proofs.Deliveries.{there-some}
 use Rattle.tam_flow.proofs.SoundStates.{IsSoundState, sound-journal}
-use Rattle.tam_flow.proofs.Once.{HasFired}
+use Rattle.tam_flow.proofs.SentOnce.{HasFired}
 use Rattle.tam_flow.proofs.Calling.{calls-sent}
 use Rattle.tam_word.proofs.Members.{has-in, In}
 
@@ -34,6 +35,7 @@ outlet-no_inlet (Alloc n) s o = s
 outlet-no_inlet (Fetch a i) s o = s
 outlet-no_inlet k s o = refl
 
+-- a vertex of a block that is an outlet is no inlet
 outlets-fire : (c : Code) (b : ℕ) → AllByRecursion (λ v. v.outlet ≡ true → v.inlet ≡ false) (block_graph c b).vertices
 outlets-fire c b = all-flat (λ v. v.outlet ≡ true → v.inlet ≡ false) (λ x. vertices_of x (kind_at c x)) (nodes_in c b) (each (nodes_in c b))
   where
@@ -48,6 +50,7 @@ outlets-fire c b = all-flat (λ v. v.outlet ≡ true → v.inlet ≡ false) (λ 
     each [] = tt
     each (x ∷ xs) = (one x (kind_at c x), each xs)
 
+-- and so by its place
 outlet-fires : (c : Code) (b y : ℕ) → y < length (block_graph c b).vertices → (vertex_at (block_graph c b) y).outlet ≡ true
     → (vertex_at (block_graph c b) y).inlet ≡ false
 outlet-fires c b y l = go (slice_get (block_graph c b).vertices y) refl

@@ -1,5 +1,6 @@
 -- What was sent stays sent, and each argument was sent to its param; the messages stand as the invariant says.
-use Rattle.std.proofs.Common.{◌≡◌, ℕ, zero, suc, ◌+◌, ◌<◌, List, [], ◌∷◌, map, flat_map, zip, Option, Some, None, length, slice_get, refl, sym, ap, ◌∙◌, arith, subst, inl, inr}
+use Rattle.std.proofs.Common.{◌≡◌, ℕ, zero, suc, ◌+◌, ◌<◌, List, [], ◌∷◌, map, flat_map, zip, Option, Some, None, length, slice_get, refl, sym, ap, ◌∙◌, arith}
+use Rattle.std.proofs.Common.{subst, inl, inr}
 use Rattle.tam_word.specs.Lists.{below}
 use Rattle.tam_graph.specs.declared.kind.Kind.TheVariants.{Param}
 use Rattle.tam_graph.specs.declared.node.Node.{Node}
@@ -9,21 +10,23 @@ use Rattle.tam_msgs.specs.declared.message.Message.{Message}
 use Rattle.tam_msgs.specs.declared.message.Message.TheVariants.{Word as Carry}
 use Rattle.tam_split.specs.GraphPartitions.{Partitions}
 use Rattle.tam_flow.specs.Worlds.{Delivery, Went, Printed, Faulted, delivered, argument_message}
-use Rattle.tam_flow.specs.Journals.{State, Event, Run, Deliver, initial, class_fired, or_message, after_delivery, deliver_all, after_event, state_from, state_after}
+use Rattle.tam_flow.specs.Journals.{State, Event, Run, Deliver, initial, class_fired, or_message, after_delivery, deliver_all, after_event, state_from}
+use Rattle.tam_flow.specs.Journals.{state_after}
 use Rattle.tam_flow.specs.JournalLaws.{IsJournal}
 use Rattle.tam_flow.specs.Reached.{MessagesStand}
 use Rattle.tam_word.proofs.Each.{get-left}
 use Rattle.tam_flow.proofs.CellChanges.{none-some, some-eq}
 use Rattle.tam_flow.proofs.Deliveries.{some-below}
 use Rattle.tam_flow.proofs.SoundStates.{counted, below-counted, sound-journal}
-use Rattle.tam_flow.proofs.Once.{once-journal}
+use Rattle.tam_flow.proofs.DeliveredOnce.{once-journal}
 use Rattle.tam_flow.proofs.Suiting.{receivers-suit}
-use Rattle.tam_flow.proofs.Places.{param-at}
+use Rattle.tam_flow.proofs.InterfacePlaces.{param-at}
 use Rattle.tam_word.proofs.Tests.{test-below}
 use Rattle.tam_word.proofs.Members.{in-get, flat_map-in, In}
 
 -- ---- what was sent stays sent
 
+-- what was sent stays sent through an event
 pub sent-event : (g : Graph) (all : Partitions) (s : State) (e : Event) (n : ℕ) (m : Message) → slice_get s.sent n ≡ Some m
     → slice_get (after_event g all s e).sent n ≡ Some m
 sent-event g all s (Run i b c) n m h = get-left s.sent (class_fired g all s i b c).sends n (some-below s.sent n h) ∙ h
@@ -38,6 +41,7 @@ sent-event g all s (Deliver k) n m h = go (or_message (slice_get s.sent k))
     go [] = h
     go (x ∷ xs) = after (delivered s.world x)
 
+-- and through a journal
 pub sent-from : (g : Graph) (all : Partitions) (s : State) (es : List Event) (n : ℕ) (m : Message) → slice_get s.sent n ≡ Some m
     → slice_get (state_from g all s es).sent n ≡ Some m
 sent-from g all s [] n m h = h
@@ -45,6 +49,7 @@ sent-from g all s (e ∷ es) n m h = sent-from g all (after_event g all s e) es 
 
 -- ---- the arguments
 
+-- an element stands with its place among the elements with their places
 in-counted : (xs : List ℕ) (k j v : ℕ) → slice_get xs j ≡ Some v → In (k + j, v) (zip (counted k (length xs)) xs)
 in-counted [] k j v h = absurd (none-some h)
 in-counted (x ∷ xs) k zero v h = let e : k + 0 ≡ k = omega arith in inl
@@ -52,6 +57,7 @@ in-counted (x ∷ xs) k zero v h = let e : k + 0 ≡ k = omega arith in inl
 in-counted (x ∷ xs) k (suc j) v h = let e : suc k + j ≡ k + suc j = omega arith in inr
     (subst (λ a. In (a, v) (zip (counted (suc k) (length xs)) xs)) e (in-counted xs (suc k) j v h))
 
+-- a param is a node of its code
 param-there : (c : Code) (x k : ℕ) → kind_at c x ≡ Param k → x < length c.nodes
 param-there c x k e = go (slice_get c.nodes x) refl e
   where

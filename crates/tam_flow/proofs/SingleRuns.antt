@@ -1,6 +1,6 @@
 -- Journals over one class per vertex: when a vertex may run, and what its run does.
 use Rattle.std.proofs.Common.{◌≡◌, ℕ, ◌<◌, Bool, true, false, not, nat_lt, [], ◌∷◌, ◌++◌, refl, sym, subst, ap, inl, inr, ◌∙◌, true≢false}
-use Rattle.std.proofs.Common.{length, slice_get, Some, arith, tests}
+use Rattle.std.proofs.Common.{length, slice_get, Some}
 use Rattle.std.proofs.lemmas.Option.{slice_get_within}
 use Rattle.tam_word.specs.Lists.{below}
 use Rattle.tam_word.proofs.Tests.{both-true, not-true}
@@ -19,6 +19,7 @@ use Rattle.tam_flow.specs.Worlds.{World, Effect, activation_at, its_code, has_wo
 use Rattle.tam_flow.specs.Journals.{State, may_run, has_run, inlets_have_words, those_before_ran, class_fired, fire_each}
 use Rattle.tam_flow.specs.Journals.{block_of_act, parts_of_act}
 use Rattle.tam_flow.specs.Reached.{IsThere}
+use Rattle.tam_word.proofs.Tests.{below-test, test-below}
 
 -- the activation's code and the block are there
 pub record BlockThere (g : Graph) (w : World) (i b : ℕ) : Type 0 where
@@ -53,14 +54,6 @@ edge-places : (c : Code) (b : ℕ) (e : ℕ × ℕ) → In e (edges_among c (ver
 edge-places c b e h =
     let f = in-fed c (vertices_in c b) e h in
     (slice_get_within (vertices_in c b) e.0 f.giver f.at_giver, slice_get_within (vertices_in c b) e.1 f.taker f.at_taker)
-
--- the test passes below
-pub below-test : (k n : ℕ) → k < n → nat_lt k n ≡ true
-below-test k n h = grind (arith, tests)
-
--- and only there
-pub test-below : (k n : ℕ) → nat_lt k n ≡ true → k < n
-test-below k n h = grind (arith, tests)
 
 -- the parts of the test
 pub record MayRun (g : Graph) (all : Partitions) (s : State) (i b k : ℕ) : Type 0 where

@@ -1,5 +1,6 @@
 -- Each state that a legal journal leaves has its reasons.
-use Rattle.std.proofs.Common.{◌≡◌, ℕ, zero, suc, ◌^◌, ◌+◌, ◌<◌, Bool, true, false, ◌==◌, ◌&&◌, not, List, [], ◌∷◌, ◌++◌, zip, Option, Some, None, is_none, length, slice_get, nat_lt, refl, sym, ap, ◌∙◌, arith, subst, inr, true≢false}
+use Rattle.std.proofs.Common.{◌≡◌, ℕ, zero, suc, ◌^◌, ◌+◌, ◌<◌, Bool, true, false, ◌==◌, ◌&&◌, not, List, [], ◌∷◌, ◌++◌, zip, Option, Some, None, is_none}
+use Rattle.std.proofs.Common.{length, slice_get, nat_lt, refl, sym, ap, ◌∙◌, arith, subst, inr, true≢false}
 use Rattle.std.specs.List.{AllByRecursion}
 use Rattle.tam_word.specs.Lists.{any_of, below}
 use Rattle.tam_graph.specs.declared.kind.Kind.TheVariants.{Param}
@@ -15,7 +16,9 @@ use Rattle.tam_split.specs.GraphPartitions.{Partitions, are_valid, firing_order}
 use Rattle.tam_fire.specs.FiringRules.{Word, Begun, Entered, Holds, code_at, the_code, body_is_entered, root_has_begun, param_has}
 use Rattle.tam_fire.proofs.Following.{holds-by}
 use Rattle.tam_flow.specs.Worlds.{Delivery, Went, Printed, Faulted, Fault, activation_at, its_code, has_entered, word_of, delivered, opening, argument_message}
-use Rattle.tam_flow.specs.Journals.{State, Event, Run, Deliver, initial, has_run, class_fired, block_of_act, parts_of_act, inlets_have_words, those_before_ran, or_message, after_delivery, deliver_all, after_event, may_run, may_arrive, may_follow, is_legal_from, state_from, state_after}
+use Rattle.tam_flow.specs.Journals.{State, Event, Run, Deliver, initial, has_run, class_fired, block_of_act, parts_of_act, inlets_have_words, those_before_ran}
+use Rattle.tam_flow.specs.Journals.{or_message, after_delivery, deliver_all, after_event, may_run, may_arrive, may_follow, is_legal_from, state_from}
+use Rattle.tam_flow.specs.Journals.{state_after}
 use Rattle.tam_flow.specs.Told.{path_of}
 use Rattle.tam_flow.specs.JournalLaws.{IsJournal}
 use Rattle.tam_flow.specs.Reached.{IsThere}
@@ -28,9 +31,9 @@ use Rattle.tam_flow.proofs.CellChanges.{none-some, some-eq}
 use Rattle.tam_flow.proofs.Deliveries.{IsSoundEffect, IsSoundDelivery, IsFault, deliver}
 use Rattle.tam_flow.proofs.Nodes.{where-each, is-param, root-words}
 use Rattle.tam_graph.proofs.BranchBlocks.{has-body}
-use Rattle.tam_flow.proofs.Firings.{no-call}
+use Rattle.tam_flow.proofs.FiringReasons.{no-call}
 use Rattle.tam_flow.proofs.ClassRuns.{IsReady, order-each, vertex-each, class-inside, sound-each}
-use Rattle.tam_flow.proofs.Lengths.{size-from}
+use Rattle.tam_flow.proofs.ActivationCounts.{size-from}
 
 -- the state: its world, its messages, its runs and its fault
 pub record IsSoundState (g : Graph) (args : List ℕ) (s : State) : Type 0 where
@@ -48,6 +51,7 @@ pub record IsRunnable (g : Graph) (all : Partitions) (s : State) (i b c : ℕ) :
   pub inlets : inlets_have_words (block_of_act g s i b) s i (class_at (parts_of_act g all s i b) c) ≡ true
   pub before : those_before_ran (block_of_act g s i b) (parts_of_act g all s i b) s i b c ≡ true
 
+-- what passes the test may run
 pub runnable : (g : Graph) (all : Partitions) (s : State) (i b c : ℕ) → may_run g all s i b c ≡ true → IsRunnable g all s i b c
 runnable g all s i b c h = record {
   there = test-below i (length s.world.activations) (and-left t1 (t2 && (t3 && (t4 && (t5 && t6)))) h);
@@ -95,10 +99,12 @@ abbrev pub counted : ℕ → ℕ → List ℕ
 counted k zero = []
 counted k (suc n) = k ∷ counted (suc k) n
 
+-- counting on by one more
 counted-more : (k n : ℕ) → counted k n ++ (k + n) ∷ [] ≡ counted k (suc n)
 counted-more k zero = let e : k + 0 ≡ k = omega arith in ap (λ m. m ∷ []) e
 counted-more k (suc n) = let e : k + suc n ≡ suc k + n = omega arith in ap (λ l. k ∷ l) (ap (λ m. counted (suc k) n ++ m ∷ []) e ∙ counted-more (suc k) n)
 
+-- the numbers below n, counted from the front
 pub below-counted : (n : ℕ) → below n ≡ counted 0 n
 below-counted zero = refl
 below-counted (suc n) = let e : n ≡ 0 + n = omega arith in ap (λ l. l ++ n ∷ []) (below-counted n) ∙ ap (λ m. counted 0 n ++ m ∷ []) e ∙ counted-more 0 n
@@ -114,27 +120,34 @@ placed-from all (x ∷ xs) k h =
           (λ j. let d : suc k + j ≡ k + suc j = omega arith in ap (slice_get all) d ∙ h (suc j)),
     )
 
+-- each argument stands at its place
 placed-each : (xs : List ℕ) → AllByRecursion (λ e. slice_get xs e.0 ≡ Some e.1) (zip (below (length xs)) xs)
 placed-each xs =
     subst (λ l. AllByRecursion (λ e. slice_get xs e.0 ≡ Some e.1) (zip l xs)) (sym (below-counted (length xs)))
     (placed-from xs xs 0 (λ j. let e : 0 + j ≡ j = omega arith in ap (slice_get xs) e))
 
 module _ (g : Graph) (args : List ℕ) (accepted : IsAccepted g) where
+  -- at the opening the root alone is there
   only-root : (i : ℕ) → IsThere (opening g) i → i ≡ 0
   only-root i t = omega arith
 
+  -- a code has a body
   pub opened : (c : ℕ) → c < length g.codes → 0 < length (code_of g c).owners
   opened c l = has-body (length g.codes) (code_of g c) (accepted.written c (below-test c (length g.codes) l))
 
+  -- the main code is there
   main-there : g.main < length g.codes
   main-there = test-below g.main (length g.codes) accepted.has_main
 
+  -- an empty list has no head
   nothing : {a : ℕ} {l : List ℕ} → [] ≡ a ∷ l → ⊥
   nothing e = cc
 
+  -- nothing is no cell
   no-cell : {c : Cell} → None ≡ Some c → ⊥
   no-cell e = none-some e
 
+  -- the opening has its reasons
   sound-opening : IsSoundWorld g args (opening g)
   sound-opening = record {
     codes = λ i t. subst (λ j. (activation_at (opening g) j).code < length g.codes) (sym (only-root i t)) main-there;
@@ -152,9 +165,11 @@ module _ (g : Graph) (args : List ℕ) (accepted : IsAccepted g) where
           → Holds g args (Entered (path_of (opening g) i) b) × (b < length (the_code g (path_of (opening g) i)).owners)
       block i b e h =
           subst (λ j. Holds g args (Entered (path_of (opening g) j) b) × (b < length (the_code g (path_of (opening g) j)).owners)) (sym e)
-          (subst (λ d. Holds g args (Entered [] d) × (d < length (the_code g []).owners)) (entered-first b (subst (λ j. has_entered (opening g) j b ≡ true) e h))
+          (subst (λ d. Holds g args (Entered [] d) × (d < length (the_code g []).owners))
+          (entered-first b (subst (λ j. has_entered (opening g) j b ≡ true) e h))
           (holds-by g args body_is_entered ((0, root_has_begun), tt), opened g.main main-there))
 
+  -- an argument on its way has its reason
   argument-message : (k v : ℕ) → slice_get args k ≡ Some v → AllByRecursion (IsMessage g args (opening g)) (argument_message g (k, v))
   argument-message k v e =
       all-map (IsMessage g args (opening g)) (λ x. Carry 0 x v) (node_where (code_of g g.main) (is_param k))
@@ -181,6 +196,7 @@ module _ (g : Graph) (args : List ℕ) (accepted : IsAccepted g) where
             },
           )
 
+  -- so the state at the beginning has its reasons
   pub sound-initial : IsSoundState g args (initial g args)
   sound-initial = record {
     world = sound-opening;
@@ -194,24 +210,29 @@ module _ (g : Graph) (args : List ℕ) (accepted : IsAccepted g) where
 
   -- ---- a class runs
 
+  -- what passes the test of no fault has none
   pub no-fault : (o : Option Fault) → is_none o ≡ true → o ≡ None
   no-fault None h = refl
   no-fault (Some f) h = absurd (true≢false (sym h))
 
   -- what is known of the run of a class that may run
   module _ (all : Partitions) (s : State) (i b c : ℕ) (valid : are_valid g all ≡ true) (sound : IsSoundState g args s) (run : IsRunnable g all s i b c) where
+    -- the block of a run is entered, and is a block of the code
     run-entered : Holds g args (Entered (path_of s.world i) b) × (b < length (the_code g (path_of s.world i)).owners)
     run-entered = sound.world.blocks i b run.there run.open_block
 
+    -- and so of the activation's code
     pub run-block : b < length (its_code g s.world i).owners
     run-block = subst (λ n. b < length (code_of g n).owners) (sound.world.path_codes i run.there) run-entered.1
 
+    -- each vertex of it is ready
     pub run-ready : (y : ℕ) → y < length (block_graph (its_code g s.world i) b).vertices
         → IsReady g args accepted s.world i run.there (block_graph (its_code g s.world i) b) y
     run-ready y l none =
         let v = vertex-each (its_code g s.world i) b y l in
         (v.0, subst (λ d. Holds g args (Entered (path_of s.world i) d)) (sym v.1) run-entered.0)
 
+    -- the places of the class are places of the block
     pub run-within : AllByRecursion (λ y. y < length (block_graph (its_code g s.world i) b).vertices) (class_at (parts_of_act g all s i b) c)
     run-within = class-inside g all (activation_at s.world i).code b c valid (sound.world.codes i run.there) run-block
 
@@ -219,6 +240,7 @@ module _ (g : Graph) (args : List ℕ) (accepted : IsAccepted g) where
     abbrev pub run_order : List ℕ
     run_order = firing_order (block_of_act g s i b).edges (class_at (parts_of_act g all s i b) c)
 
+    -- so each vertex of the class is ready, in the order of firing
     pub order-ready : AllByRecursion (IsReady g args accepted s.world i run.there (block_of_act g s i b)) run_order
     order-ready =
         order-each (IsReady g args accepted s.world i run.there (block_of_act g s i b)) (block_of_act g s i b).edges (class_at (parts_of_act g all s i b) c)
@@ -226,11 +248,13 @@ module _ (g : Graph) (args : List ℕ) (accepted : IsAccepted g) where
         (IsReady g args accepted s.world i run.there (block_of_act g s i b)) run-ready
         (class_at (parts_of_act g all s i b) c) run-within)
 
+    -- and the run has its reasons
     pub run-effect : IsSoundEffect g args s.world (class_fired g all s i b c)
     run-effect =
         sound-each g args accepted s.world i run.there (block_of_act g s i b) (record { world = s.world; sends = [] }) run_order
         (record { world = sound.world; grows = grows-same s.world; sends = tt }) order-ready
 
+  -- a run leaves a state that has its reasons
   sound-run : (all : Partitions) (s : State) (i b c : ℕ) → are_valid g all ≡ true → IsSoundState g args s → may_follow g all s (Run i b c) ≡ true
       → IsSoundState g args (after_event g all s (Run i b c))
   sound-run all s i b c valid sound may = record {
@@ -264,6 +288,7 @@ module _ (g : Graph) (args : List ℕ) (accepted : IsAccepted g) where
 
   -- ---- a message arrives
 
+  -- and so does a delivery
   pub sound-delivery : (s : State) (m : ℕ) (d : Delivery) → s.fault ≡ None → IsSoundState g args s → IsSoundDelivery g args s.world d
       → IsSoundState g args (after_delivery s m d)
   sound-delivery s m (Went e) whole sound h = record {
@@ -278,6 +303,7 @@ module _ (g : Graph) (args : List ℕ) (accepted : IsAccepted g) where
 
   -- ---- any event, and many
 
+  -- so does each event
   pub sound-event : (all : Partitions) (s : State) (e : Event) → are_valid g all ≡ true → length s.world.activations < 2 ^ 32 → IsSoundState g args s
       → may_follow g all s e ≡ true → IsSoundState g args (after_event g all s e)
   sound-event all s (Run i b c) valid few sound may = sound-run all s i b c valid sound may
@@ -292,6 +318,7 @@ module _ (g : Graph) (args : List ℕ) (accepted : IsAccepted g) where
           sound-delivery s m (delivered s.world x) whole sound
           (deliver g args s.world sound.world few opened x (all-at_place (IsMessage g args s.world) s.sent m x sound.sent e))
 
+  -- and each legal journal
   sound-from : (all : Partitions) (s : State) (es : List Event) → are_valid g all ≡ true → length (state_from g all s es).world.activations < 2 ^ 32
       → IsSoundState g args s
       → is_legal_from g all s es ≡ true → IsSoundState g args (state_from g all s es)

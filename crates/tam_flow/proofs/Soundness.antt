@@ -7,7 +7,8 @@ use Rattle.tam_graph.specs.declared.kind.Kind.TheVariants.{Call}
 use Rattle.tam_graph.specs.Graphs.{Graph, code_of, kind_at, block_at, depth_at, operands_of, is_outlet}
 use Rattle.tam_split.specs.GraphPartitions.{Partitions}
 use Rattle.tam_split.specs.Partitions.{class_of}
-use Rattle.tam_fire.specs.FiringRules.{Value, Word, Activation, Array, Fact, Begun, Entered, Val, Fired, Holds, values, node_of, block_of, code_at, the_code, outlet_fires}
+use Rattle.tam_fire.specs.FiringRules.{Value, Word, Activation, Array, Fact, Begun, Entered, Val, Fired, Holds, values, node_of, block_of, code_at, the_code}
+use Rattle.tam_fire.specs.FiringRules.{outlet_fires}
 use Rattle.tam_fire.proofs.Following.{holds-by}
 use Rattle.tam_flow.specs.Worlds.{World, activation_at, its_code}
 use Rattle.tam_flow.specs.Journals.{State, has_run, state_after, block_of_act, parts_of_act}
@@ -31,11 +32,13 @@ abbrev by_depth : World → ℕ → ℕ → Value
 by_depth w zero u = Word u
 by_depth w (suc d) u = array_of w u
 
+-- the word of a node that is no call means what its depth says
 meant-flat : (w : World) (k : Kind) (d u : ℕ) → IsNoCall k → meant_at w k d u ≡ by_depth w d u
 meant-flat w (Call c) d u h = absurd (h c refl)
 meant-flat w k zero u h = refl
 meant-flat w k (suc d) u h = refl
 
+-- what a word stands for is what its depth says
 stands-meant : (g : Graph) (w : World) (d u : ℕ) (v : Value) → StandsFor g w d u v → by_depth w d u ≡ v
 stands-meant g w zero u v h = sym h
 stands-meant g w (suc d) u v h = ap₂ (λ p z. Array p z) h.2.number.1 h.2.alloc ∙ sym h.4
@@ -62,6 +65,7 @@ module _ (g : Graph) (args : List ℕ) where
       go : IsValue g args w (path_of w i) x h.0 → Holds g args (Val (path_of w i) x v)
       go k = subst (λ y. Holds g args (Val (path_of w i) x y)) (sym (h.2 ∙ means-meant w sound i x h.0 k.value t k.means)) k.holds
 
+  -- the values that nodes have, by their words, hold
   words-hold : (w : World) (sound : IsSoundWorld g args w) (i : ℕ) (xs : List ℕ) (vs : List Value) → IsThere w i → HaveWords g w i xs vs
       → (length vs ≡ length xs) × AllByRecursion (Holds g args) (values (path_of w i) xs vs)
   words-hold w sound i [] [] t h = (refl, tt)
@@ -90,7 +94,8 @@ module _ (g : Graph) (args : List ℕ) where
           × AllByRecursion (Holds g args) (values (path_of s.world h.0) (operands_of (its_code g s.world h.0) (kind_at (its_code g s.world h.0) x)) vs)
       words = words-hold s.world sound.world h.0 (operands_of (its_code g s.world h.0) (kind_at (its_code g s.world h.0) x)) vs h.1.0 h.4
 
-      ran : (y : ℕ) × (has_run s h.0 (block_at (its_code g s.world h.0) x) (class_of (parts_of_act g all s h.0 (block_at (its_code g s.world h.0) x)) y) ≡ true)
+      ran : (y : ℕ)
+          × (has_run s h.0 (block_at (its_code g s.world h.0) x) (class_of (parts_of_act g all s h.0 (block_at (its_code g s.world h.0) x)) y) ≡ true)
       ran = any-one (λ y. has_run s h.0 (block_at (its_code g s.world h.0) x) (class_of (parts_of_act g all s h.0 (block_at (its_code g s.world h.0) x)) y))
           (outlet_place (block_of_act g s h.0 (block_at (its_code g s.world h.0) x)) x) h.3
 

@@ -1,5 +1,6 @@
 -- Words suit their nodes, messages their receivers, and each wish is sent once: further parts that each state behind a legal journal has.
-use Rattle.std.proofs.Common.{◌≡◌, ◌≢◌, ℕ, zero, suc, ◌<◌, true, List, [], ◌∷◌, Option, Some, None, length, slice_get, refl, sym, ap, ◌∙◌, arith, subst, inl, inr}
+use Rattle.std.proofs.Common.{◌≡◌, ◌≢◌, ℕ, zero, suc, ◌<◌, true, List, [], ◌∷◌, Option, Some, None, length, slice_get, refl, sym, ap, ◌∙◌, arith, subst, inl}
+use Rattle.std.proofs.Common.{inr}
 use Rattle.tam_graph.specs.declared.kind.Kind.TheVariants.{Call}
 use Rattle.tam_graph.specs.declared.node.Node.{Node}
 use Rattle.tam_graph.specs.Graphs.{Graph, Code, code_of, kind_at, depth_at, or_kind}
@@ -18,7 +19,8 @@ use Rattle.tam_flow.proofs.Justified.{StandsFor, Means, IsMessage, depth_in}
 use Rattle.tam_flow.proofs.Deliveries.{some-below}
 use Rattle.tam_flow.proofs.Nodes.{right-depth}
 use Rattle.tam_flow.proofs.SoundStates.{IsSoundState}
-use Rattle.tam_flow.proofs.Once.{IsOnceState, one-wish, nil-cons}
+use Rattle.tam_flow.proofs.SentOnce.{IsOnceState, nil-cons}
+use Rattle.tam_flow.proofs.DeliveredOnce.{one-wish}
 use Rattle.tam_flow.proofs.ReachedParts.{root-path, caller-path}
 use Rattle.tam_word.proofs.Tests.{number-eq}
 
@@ -35,9 +37,11 @@ call-there c x d e = go (slice_get c.nodes x) refl e
 
 module _ (g : Graph) (args : List ℕ) (accepted : IsAccepted g) (all : Partitions) (s : State) (sound : IsSoundState g args s)
     (once : IsOnceState g args all s) where
+  -- a node does what the node of its path does
   its-kind : (i x : ℕ) → IsThere s.world i → node_of g (path_of s.world i) x ≡ kind_of g s.world i x
   its-kind i x t = ap (λ n. kind_at (code_of g n) x) (sound.world.path_codes i t)
 
+  -- and has its depth
   its-depth : (i x : ℕ) → IsThere s.world i → depth_in g (path_of s.world i) x ≡ depth_of g s.world i x
   its-depth i x t = ap (λ n. depth_at (code_of g n) x) (sound.world.path_codes i t)
 
@@ -108,10 +112,12 @@ module _ (g : Graph) (args : List ℕ) (accepted : IsAccepted g) (all : Partitio
   makers-there a l = (sound.world.made a l).array.number.0
 
   module _ (valid : are_valid g all ≡ true) where
+    -- a wish for an array by one node was sent once
     pub one-make : (m n u v f x : ℕ) → slice_get s.sent m ≡ Some (Make u f x) → slice_get s.sent n ≡ Some (Make v f x) → m ≡ n
     one-make m n u v f x e h =
         one-wish g args accepted all valid s sound once m n (Make u f x) (Make v f x) e h refl refl (λ i y j z a b. (sym a.0 ∙ b.0, sym a.1 ∙ b.1))
 
+    -- and so a wish for a cell
     pub one-fetch : (m n a b i j f x t e : ℕ) → slice_get s.sent m ≡ Some (Ask_cell a i f x t) → slice_get s.sent n ≡ Some (Ask_cell b j f x e) → m ≡ n
     one-fetch m n a b i j f x t e p q =
         one-wish g args accepted all valid s sound once m n (Ask_cell a i f x t) (Ask_cell b j f x e) p q refl refl

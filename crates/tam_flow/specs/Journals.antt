@@ -1,5 +1,6 @@
 -- Journals: runs of classes and deliveries of messages, with every choice of the next event.
-use Rattle.std.specs.Prelude.{ℕ, ◌≡◌, Bool, true, false, ◌&&◌, not, ◌==◌, nat_lt, List, [], ◌∷◌, ◌++◌, flat_map, Option, Some, None, slice_get, length, zip, IsTrue, is_none}
+use Rattle.std.specs.Prelude.{ℕ, ◌≡◌, Bool, true, false, ◌&&◌, not, ◌==◌, nat_lt, List, [], ◌∷◌, ◌++◌, flat_map, Option, Some, None, slice_get, length, zip}
+use Rattle.std.specs.Prelude.{IsTrue, is_none}
 use Rattle.tam_word.specs.Lists.{below, any_of, all_of, has}
 use Rattle.tam_msgs.specs.declared.message.Message.{Message}
 use Rattle.tam_split.specs.declared.vertex.Vertex.{Vertex}
@@ -7,7 +8,8 @@ use Rattle.tam_graph.specs.Graphs.{Graph}
 use Rattle.tam_split.specs.Blocks.{BlockGraph, block_graph, vertex_at}
 use Rattle.tam_split.specs.Partitions.{Parts, class_at, directly_before}
 use Rattle.tam_split.specs.GraphPartitions.{Partitions, parts_of, firing_order}
-use Rattle.tam_flow.specs.Worlds.{World, Effect, Delivery, Went, Printed, Faulted, Fault, activation_at, its_code, has_word, has_entered, fired, delivered, opening, argument_message}
+use Rattle.tam_flow.specs.Worlds.{World, Effect, Delivery, Went, Printed, Faulted, Fault, activation_at, its_code, has_word, has_entered, fired, delivered}
+use Rattle.tam_flow.specs.Worlds.{opening, argument_message}
 
 -- a class of a block of an activation runs, or a message is delivered (by its number in the order of sending)
 pub data Event : Type 0 where
@@ -98,7 +100,8 @@ those_before_ran b parts s i block c =
 abbrev pub may_run : Graph → Partitions → State → ℕ → ℕ → ℕ → Bool
 may_run g all s i b c =
     nat_lt i (length s.world.activations) && (nat_lt c (length (parts_of_act g all s i b)) && (not (has_run s i b c) && (has_entered s.world i b
-    && (inlets_have_words (block_of_act g s i b) s i (class_at (parts_of_act g all s i b) c) && those_before_ran (block_of_act g s i b) (parts_of_act g all s i b) s i b c))))
+    && (inlets_have_words (block_of_act g s i b) s i (class_at (parts_of_act g all s i b) c)
+    && those_before_ran (block_of_act g s i b) (parts_of_act g all s i b) s i b c))))
 
 -- the messages that were sent and haven't arrived, in the order in which they were sent
 abbrev pub on_their_way : State → List Message

@@ -3,7 +3,8 @@ use Rattle.std.specs.Prelude.{ℕ, suc, ◌^◌, ◌≡◌, ◌≢◌, ◌<◌, 
 use Rattle.tam_word.specs.Lists.{has}
 use Rattle.tam_word.specs.Words.{meaning}
 use Rattle.tam_graph.specs.declared.kind.Kind.{Kind}
-use Rattle.tam_graph.specs.declared.kind.Kind.TheVariants.{Param, Const, Op as Operate, Seq, Call, Arg, Ret, Give, Alloc, Fetch, Store, Cond, Switch, Merge, Enter, Leave}
+use Rattle.tam_graph.specs.declared.kind.Kind.TheVariants.{Param, Const, Op as Operate, Seq, Call, Arg, Ret, Give, Alloc, Fetch, Store, Cond, Switch, Merge}
+use Rattle.tam_graph.specs.declared.kind.Kind.TheVariants.{Enter, Leave}
 use Rattle.tam_msgs.specs.declared.message.Message.{Message}
 use Rattle.tam_msgs.specs.declared.message.Message.TheVariants.{Word as Carry, Frame as Begin, Cells as Make, Fetch as Ask_cell, Store as Put_cell}
 use Rattle.tam_msgs.specs.Messages.{outside, site}
@@ -135,7 +136,8 @@ pub record OutletsDid (g : Graph) (all : Partitions) (s : State) : Type 0 where
       → WasSent s (Put_cell t u v (site (activation_at s.world i).code x))
   pub cond_entered : (i c p y n v : ℕ) → Ran g all s i c → kind_of g s.world i c ≡ Cond p y n → Has s i p v
       → has_entered s.world i (chosen_branch (its_code g s.world i) c v) ≡ true
-  pub switch_gave : (i y c k a x v u : ℕ) → Ran g all s i y → kind_of g s.world i y ≡ Switch c k a → Has s i (test_of (its_code g s.world i) c) v → Has s i a u
+  pub switch_gave : (i y c k a x v u : ℕ) → Ran g all s i y → kind_of g s.world i y ≡ Switch c k a → Has s i (test_of (its_code g s.world i) c) v
+      → Has s i a u
       → kind_of g s.world i x ≡ Enter k → block_at (its_code g s.world i) x ≡ chosen_branch (its_code g s.world i) c v → Has s i x u
   pub leave_gave : (i y c k a x u : ℕ) → Ran g all s i y → kind_of g s.world i y ≡ Leave k a → Has s i a u
       → slice_get (its_code g s.world i).owners (block_at (its_code g s.world i) y) ≡ Some (Some c) → kind_of g s.world i x ≡ Merge c k → Has s i x u

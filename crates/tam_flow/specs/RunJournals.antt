@@ -29,7 +29,8 @@ pub record EndsSo (g : Graph) (all : Partitions) (args : List ℕ) (limits : Lim
   pub charged : IsCharged g all (state_after g all args events) made
 
 -- a run that ended so, with these words printed, so many activations begun and so many events made, has a journal
-pub record HasJournal (g : Graph) (all : Partitions) (args : List ℕ) (limits : Limits) (how : End) (printed : List (ℕ × ℕ)) (activations made : ℕ) : Type 0 where
+pub record HasJournal (g : Graph) (all : Partitions) (args : List ℕ) (limits : Limits) (how : End)
+    (printed : List (ℕ × ℕ)) (activations made : ℕ) : Type 0 where
   pub events : List Event
   pub legal : IsTrue (is_legal g all args events)
   pub same_words : (state_after g all args events).printed ≡ printed

@@ -1,12 +1,14 @@
 -- The activations of a graph at run time, where activations and arrays are numbers, and what a firing and a delivery do.
-use Rattle.std.specs.Prelude.{ℕ, Bool, true, false, ◌==◌, List, [], ◌∷◌, ◌++◌, map, flat_map, Option, Some, None, slice_get, slice_index_or, option_to_list, is_some, length}
+use Rattle.std.specs.Prelude.{ℕ, Bool, true, false, ◌==◌, List, [], ◌∷◌, ◌++◌, map, flat_map, Option, Some, None, slice_get, slice_index_or, option_to_list}
+use Rattle.std.specs.Prelude.{is_some, length}
 use Rattle.tam_word.specs.Lists.{changed_at, put_at}
 use Rattle.tam_graph.specs.declared.kind.Kind.{Kind}
 use Rattle.tam_graph.specs.declared.kind.Kind.TheVariants.{Const, Op as Operate, Seq, Call, Arg, Give, Alloc, Fetch, Store, Cond, Switch, Leave}
 use Rattle.tam_msgs.specs.declared.message.Message.{Message}
 use Rattle.tam_msgs.specs.declared.message.Message.TheVariants.{Word as Carry, Frame as Begin, Cells as Make, Fetch as Ask_cell, Store as Put_cell}
 use Rattle.tam_word.specs.Words.{meaning}
-use Rattle.tam_graph.specs.Graphs.{Code, Graph, code_of, kind_at, operands_of, callee_of, chosen_branch, owner_of, block_at, node_where, node_in, is_param, is_ret, is_enter, is_merge}
+use Rattle.tam_graph.specs.Graphs.{Code, Graph, code_of, kind_at, operands_of, callee_of, chosen_branch, owner_of, block_at, node_where, node_in, is_param}
+use Rattle.tam_graph.specs.Graphs.{is_ret, is_enter, is_merge}
 use Rattle.tam_msgs.specs.Messages.{outside, site, answers}
 use Rattle.tam_istr.specs.Cells.{Arrays, Access, Now, Deferred, Stored, Twice, NotBelow, NoArray, with_array, fetched_from, stored_into}
 
@@ -163,7 +165,11 @@ accessed w s i reader v NoArray = Faulted (Outside_cells s i 0)
 abbrev pub delivered : World → Message → Delivery
 delivered w (Carry f x v) = elim (f == outside) [ true ↦ Printed x v | false ↦ Went (changes (got w f x v)) ]
 delivered w (Begin c f x) = Went (sends_only (record w { activations = w.activations ++ begun c f x ∷ [] }) (Carry f x (length w.activations) ∷ []))
-delivered w (Make n f x) = Went (sends_only (record w { arrays = with_array w.arrays n; makers = w.makers ++ (f, x) ∷ [] }) (Carry f x (length w.arrays) ∷ []))
+delivered w (Make n f x) = Went (sends_only (record w {
+  arrays = with_array w.arrays n;
+  makers = w.makers
+      ++ (f, x) ∷ [];
+}) (Carry f x (length w.arrays) ∷ []))
 delivered w (Ask_cell a i f x s) = accessed w s i (f, x) 0 (fetched_from w.arrays a i (f, x))
 delivered w (Put_cell a i v s) = accessed w s i (0, 0) v (stored_into w.arrays a i v s)
 

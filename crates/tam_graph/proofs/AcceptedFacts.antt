@@ -11,7 +11,9 @@ use Rattle.tam_graph.specs.declared.kind.Kind.TheVariants.{Call, Cond, Enter}
 use Rattle.tam_graph.specs.Graphs.{Code, Graph, code_of, or_kind, kind_at, node_numbers}
 use Rattle.tam_graph.specs.Written.{is_operand, is_call_node, is_cond_node, is_line}
 use Rattle.tam_graph.specs.declared.check_cause.CheckCause.{CheckCause}
-use Rattle.tam_graph.specs.declared.check_cause.CheckCause.TheVariants.{DepthMismatch as Depth_mismatch, MainType as Main_type, WrongBlock as Wrong_block, PlaceTwice as Place_twice, PlaceRange as Place_range, PlaceMissing as Place_missing, Cycle}
+use Rattle.tam_graph.specs.declared.check_cause.CheckCause.TheVariants.{DepthMismatch as Depth_mismatch, MainType as Main_type, WrongBlock as Wrong_block}
+use Rattle.tam_graph.specs.declared.check_cause.CheckCause.TheVariants.{PlaceTwice as Place_twice, PlaceRange as Place_range, PlaceMissing as Place_missing}
+use Rattle.tam_graph.specs.declared.check_cause.CheckCause.TheVariants.{Cycle}
 use Rattle.tam_graph.specs.Accepted.{is_wrong_block, is_place_twice, is_place_range, is_place_missing, is_main_type}
 use Rattle.tam_graph.specs.Accepted.{is_cycle, has_right_depth, faults_at, faults_of, IsAccepted}
 
@@ -32,7 +34,11 @@ module _ (g : Graph) (acc : IsAccepted g) (n : ℕ) (l : n < length g.codes) whe
       let in-node = map-in (λ (f : CheckCause). (n, x, f)) f (faults_at g n x) a in
       let in-code = flat_map-in (λ (x : ℕ). map (λ (f : CheckCause). (n, x, f)) (faults_at g n x)) x (n, x, f) (node_numbers (code_of g n))
       (below-in x (length (code_of g n).nodes) m) in-node in
-      let in-graph = flat_map-in (λ (n : ℕ). flat_map (λ (x : ℕ). map (λ (f : CheckCause). (n, x, f)) (faults_at g n x)) (node_numbers (code_of g n))) n (n, x, f) (below (length g.codes)) (below-in n (length g.codes) l) in-code in
+      let in-graph = flat_map-in (λ (n : ℕ). flat_map (λ (x : ℕ). map (λ (f : CheckCause). (n, x, f)) (faults_at g n x)) (node_numbers (code_of g n))) n (
+        n,
+        x,
+        f,
+      ) (below (length g.codes)) (below-in n (length g.codes) l) in-code in
       none (faults_of g) acc.no_fault in-graph
     where
       none : (fs : List (ℕ × ℕ × CheckCause)) → fs ≡ [] → In (n, x, f) fs → ⊥
@@ -60,6 +66,18 @@ module _ (g : Graph) (acc : IsAccepted g) (n : ℕ) (l : n < length g.codes) whe
             (left-in Depth_mismatch (where_so (not (has_right_depth g (code_of g n) x (kind_at (code_of g n) x))) Depth_mismatch)
             (where_so ((n == g.main) && is_main_type (code_of g n) x (kind_at (code_of g n) x)) Main_type
             ++ where_so (is_cycle (code_of g n) x) Cycle) w))))))
+
+    -- no earlier node stands for the same place
+    pub once-placed : is_place_twice (code_of g n) x ≡ false
+    once-placed = go (is_place_twice (code_of g n) x) refl
+      where
+        go : (b : Bool) → is_place_twice (code_of g n) x ≡ b → is_place_twice (code_of g n) x ≡ false
+        go false e = e
+        go true e =
+            let w = so-among (is_place_twice (code_of g n) x) Place_twice e in
+            absurd (no-fault-at x m Place_twice
+            (right-in Place_twice (where_so (is_wrong_block (code_of g n) x) Wrong_block) _
+            (left-in Place_twice (where_so (is_place_twice (code_of g n) x) Place_twice) _ w)))
 
     -- what `main` takes and gives are words
     pub right-main : n ≡ g.main → is_main_type (code_of g n) x (kind_at (code_of g n) x) ≡ false

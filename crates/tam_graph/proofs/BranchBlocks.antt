@@ -1,9 +1,7 @@
 -- The branches of a cond are blocks of its code.
-use Rattle.std.proofs.Common.{◌≡◌, ℕ, zero, suc, ◌<◌, List, [], ◌∷◌, flat_map, zip, Option, Some, None, length, refl, ap, subst, sym, inl, inr}
-use Rattle.std.specs.List.{AllByRecursion}
-use Rattle.tam_graph.specs.declared.kind.Kind.{Kind}
+use Rattle.std.proofs.Common.{◌≡◌, ℕ, ◌<◌, List, [], ◌∷◌, zip, Option, Some, None, length, refl, ap, subst, sym, inl, inr}
 use Rattle.tam_graph.specs.declared.kind.Kind.TheVariants.{Cond}
-use Rattle.tam_graph.specs.Graphs.{Code, kind_at, nodes_in, node_numbers, blocks_of}
+use Rattle.tam_graph.specs.Graphs.{Code, kind_at, blocks_of}
 use Rattle.tam_graph.specs.Written.{IsWritten, AtNode, visits, in_opening_order}
 use Rattle.tam_graph.proofs.Visits.{node-visited, both-opened}
 use Rattle.tam_word.proofs.Each.{below-each, each-in}

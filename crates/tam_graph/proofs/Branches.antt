@@ -5,10 +5,9 @@ use Rattle.std.specs.List.{zip}
 use Rattle.std.specs.Prelude.{Option}
 use Rattle.tam_word.specs.Lists.{below}
 use Rattle.tam_word.proofs.Tests.{below-test}
-use Rattle.tam_word.proofs.Members.{In, left-in, right-in, in-append, flat_map-in, in-flat_map, below-in, in-get}
-use Rattle.tam_graph.specs.declared.kind.Kind.{Kind}
+use Rattle.tam_word.proofs.Members.{In, below-in, in-get}
 use Rattle.tam_graph.specs.declared.kind.Kind.TheVariants.{Cond, Switch, Enter}
-use Rattle.tam_graph.specs.Graphs.{Code, Graph, code_of, or_block, kind_at, block_at, depth_at, nodes_in, blocks_of, chosen_branch, branch_of_kind}
+use Rattle.tam_graph.specs.Graphs.{Code, Graph, code_of, or_block, kind_at, block_at, depth_at, blocks_of, chosen_branch, branch_of_kind}
 use Rattle.tam_graph.specs.Written.{in_file_order, in_opening_order, IsWritten}
 use Rattle.tam_graph.proofs.Visits.{node-visited, both-opened}
 use Rattle.tam_graph.specs.Accepted.{IsAccepted, enters_depth}

@@ -1,11 +1,10 @@
 -- The names of a graph's codes: no two codes have one name.
-use Rattle.std.proofs.Common.{◌≡◌, ℕ, zero, suc, ◌<◌, ◌≤◌, ◌⊎◌, inl, inr, true, List, [], ◌∷◌, Some, None, length, map, slice_get, refl, sym, ap, ◌∙◌, true≢false, arith}
+use Rattle.std.proofs.Common.{◌≡◌, ℕ, zero, suc, ◌<◌, inl, inr, true, List, [], ◌∷◌, Some, length, map, slice_get, refl, sym, ap, ◌∙◌, true≢false, arith}
 use Rattle.std.specs.List.{position_or_len}
 use Rattle.std.proofs.lemmas.Option.{slice_get-map, slice_get_cases, none-some, same_Some}
 use Rattle.tam_word.specs.Lists.{all_differ, same_bytes}
 use Rattle.tam_word.proofs.Members.{get-in, in-any}
-use Rattle.tam_graph.specs.Graphs.{Code, Graph, code_of, or_code}
-use Rattle.tam_graph.specs.Reading.{IsOfText}
+use Rattle.tam_graph.specs.Graphs.{Code, or_code}
 use Rattle.tam_graph.proofs.SameBytes.{same_self, same_equal}
 use Rattle.tam_graph.proofs.NodeNames.{differ-behind}
 use Rattle.tam_graph.proofs.FirstPlaces.{first_within, first_passes}

@@ -17,7 +17,8 @@ all-depths-at c test d x l t h =
     number-eq (depth_at c x) d (all-in (λ (x : ℕ). depth_at c x == d) (filter (λ x. test (kind_at c x)) (node_numbers c)) h x (filter-in (λ (x : ℕ). test (kind_at c x)) x (node_numbers c) (below-in x (length c.nodes) l) t))
 
 -- and so in a block
-pub enters-depth-at : (c : Code) (k d b x : ℕ) → x < length c.nodes → kind_at c x ≡ Enter k → block_at c x ≡ b → enters_depth c k d b ≡ true → depth_at c x ≡ d
+pub enters-depth-at : (c : Code) (k d b x : ℕ) → x < length c.nodes → kind_at c x ≡ Enter k → block_at c x ≡ b → enters_depth c k d b ≡ true
+    → depth_at c x ≡ d
 enters-depth-at c k d b x l e p h =
     let in-block = filter-in (λ (x : ℕ). block_at c x == b) x (node_numbers c) (below-in x (length c.nodes) l) (rw p (self-eq b)) in
     let there = filter-in (λ (x : ℕ). is_enter k (kind_at c x)) x (nodes_in c b) in-block (rw e (self-eq k)) in

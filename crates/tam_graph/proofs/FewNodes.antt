@@ -1,5 +1,6 @@
 -- A code within the limits has at most 1024 nodes, each in one of its blocks.
-use Rattle.std.proofs.Common.{◌≡◌, ℕ, zero, suc, ◌+◌, ◌<◌, ◌≤◌, Bool, true, false, ◌==◌, List, [], ◌∷◌, filter, sum_by, length, nat_lt, refl, ap, arith, tests, inl, inr, subst, sym}
+use Rattle.std.proofs.Common.{◌≡◌, ℕ, zero, suc, ◌+◌, ◌<◌, ◌≤◌, Bool, true, false, ◌==◌, List, [], ◌∷◌, filter, sum_by, length, nat_lt, refl, ap, arith}
+use Rattle.std.proofs.Common.{tests, inl, inr, subst, sym}
 use Rattle.std.proofs.lemmas.List.Sums.{sum_by-cons, sum_by_push}
 use Rattle.std.proofs.lemmas.List.{length-append}
 use Rattle.tam_word.specs.Lists.{below}
@@ -68,7 +69,7 @@ all-blocks c xs (suc m) =
     chain a b d p q t h k l e = omega arith
 
 -- where each element passes, all are left
-all-left : (test : ℕ → Bool) (xs : List ℕ) → ((x : ℕ) → In x xs → test x ≡ true) → length (filter test xs) ≡ length xs
+pub all-left : (test : ℕ → Bool) (xs : List ℕ) → ((x : ℕ) → In x xs → test x ≡ true) → length (filter test xs) ≡ length xs
 all-left test [] h = refl
 all-left test (x ∷ xs) h = rw (h x (inl refl)) (ap suc (all-left test xs (λ y m. h y (inr m))))
 

@@ -1,16 +1,15 @@
 -- An index is made node by node.
-use Rattle.std.proofs.Common.{◌≡◌, ◌≢◌, ℕ, zero, suc, ◌+◌, ◌<◌, ◌≤◌, Bool, true, false, ◌==◌, List, [], ◌∷◌, Option, Some, None, slice_get, slice_set, length, refl, sym, ap, ◌∙◌, inl, inr, arith}
+use Rattle.std.proofs.Common.{◌≡◌, ◌≢◌, ℕ, zero, suc, ◌+◌, ◌<◌, Bool, true, false, ◌==◌, List, [], ◌∷◌, Option, Some, None, slice_get, slice_set, length}
+use Rattle.std.proofs.Common.{refl, sym, ap, ◌∙◌, inl, inr, arith}
 use Rattle.std.specs.Prelude.{replicate}
-use Rattle.std.proofs.lemmas.Option.{slice_get_within}
 use Rattle.std.proofs.lemmas.List.{length-set, length-replicate}
-use Rattle.tam_word.proofs.Tests.{number-eq, eq-number, number-differs, differs-number}
+use Rattle.tam_word.proofs.Tests.{number-eq, number-differs}
 use Rattle.tam_word.proofs.Each.{last-or_before}
 use Rattle.tam_graph.specs.declared.node.Node.{Node}
-use Rattle.tam_graph.specs.declared.index.Index.{Index}
 use Rattle.tam_graph.specs.Finding.{name_of}
-use Rattle.tam_graph.specs.Hashes.{hash_of, has_hash, last_below, IsIndexOf}
+use Rattle.tam_graph.specs.Hashes.{hash_of, last_below, IsIndexOf}
 use Rattle.tam_graph.proofs.LastNodes.{last-here, last-other}
-use Rattle.tam_graph.proofs.NodeNames.{named-there}
+use Rattle.tam_graph.proofs.NodeNames.{named-within}
 
 -- the index of the nodes below n
 pub record IsIndexBelow (nodes : List Node) (n : ℕ) (lasts befores : List (Option ℕ)) : Type 0 where
@@ -65,7 +64,10 @@ index-unnamed nodes n lasts befores i none = record {
     step h = rw next (ap Some (sym (last-other nodes h n (rw none refl))))
 
     before : (x : ℕ) (name : List ℕ) → x < n + 1 → name_of (slice_get nodes x) ≡ Some name → slice_get befores x ≡ Some (last_below nodes (hash_of name) x)
-    before x name l e = elim (last-or_before x n (omega arith)) [ inl b ↦ i.before x name b e | inr same ↦ absurd (let f = rw same at e in let g : None ≡ Some name = rw none at f in cc) ]
+    before x name l e = elim (last-or_before x n (omega arith)) [
+      | inl b ↦ i.before x name b e
+      | inr same ↦ absurd (let f = rw same at e in let g : None ≡ Some name = rw none at f in cc)
+    ]
 
 -- a node with a name
 pub index-named : (nodes : List Node) (n : ℕ) (lasts befores : List (Option ℕ)) (name : List ℕ) → IsIndexBelow nodes n lasts befores
@@ -86,7 +88,8 @@ index-named nodes n lasts befores name i named fits low was is = record {
         go : (t : Bool) → (hash_of name == h) ≡ t → slice_get (slice_set lasts (hash_of name) (Some n)) h ≡ Some (last_below nodes h (n + 1))
         go true p =
             let e : hash_of name ≡ h = number-eq (hash_of name) h p in
-            rw next (rw (← e) (get-set lasts (hash_of name) (Some n) (omega (arith, fits, i.sizes.0)) ∙ ap Some (sym (last-here nodes (hash_of name) n name named refl))))
+            rw next (rw (← e) (get-set lasts (hash_of name) (Some n) (omega (arith, fits, i.sizes.0))
+            ∙ ap Some (sym (last-here nodes (hash_of name) n name named refl))))
         go false p =
             rw next (get-set_other lasts (hash_of name) h (Some n) (number-differs (hash_of name) h p)
             ∙ (i.last h l ∙ ap Some (sym (last-other nodes h n (rw named p)))))
@@ -110,5 +113,5 @@ pub index-whole : (nodes : List Node) (lasts befores : List (Option ℕ)) → Is
 index-whole nodes lasts befores i = record {
   room = i.sizes.1;
   last = i.last;
-  before = λ x name e. let n = named-there (slice_get nodes x) name e in i.before x name (slice_get_within nodes x n.0 n.1) e;
+  before = λ x name e. i.before x name (named-within nodes x name e) e;
 }

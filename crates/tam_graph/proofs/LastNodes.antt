@@ -1,6 +1,7 @@
 -- The last node below a number whose name has a hash, and the way from one such node to the one before it.
-use Rattle.std.proofs.Common.{◌≡◌, ◌≢◌, ℕ, zero, suc, ◌<◌, ◌≤◌, Bool, true, false, ◌==◌, List, Option, Some, None, slice_get, length, refl, sym, subst, ap, ◌∙◌, inl, inr, arith, true≢false}
-use Rattle.std.proofs.lemmas.Option.{slice_get_within, none-some, same_Some}
+use Rattle.std.proofs.Common.{◌≡◌, ◌≢◌, ℕ, zero, suc, ◌<◌, Bool, true, false, List, Option, Some, None, slice_get, length, refl, sym, ◌∙◌, inl, inr, arith}
+use Rattle.std.proofs.Common.{true≢false}
+use Rattle.std.proofs.lemmas.Option.{none-some, same_Some}
 use Rattle.std.proofs.lemmas.Bool.{cases_lt}
 use Rattle.std.proofs.Math.Nat.{eq-or-lt_of_le}
 use Rattle.tam_word.proofs.Tests.{number-eq, self-eq}
@@ -8,7 +9,7 @@ use Rattle.tam_word.proofs.Each.{last-or_before}
 use Rattle.tam_graph.specs.declared.node.Node.{Node}
 use Rattle.tam_graph.specs.Finding.{name_of}
 use Rattle.tam_graph.specs.Hashes.{hash_of, has_hash, last_below}
-use Rattle.tam_graph.proofs.NodeNames.{named-there}
+use Rattle.tam_graph.proofs.NodeNames.{named-within}
 
 -- where there is a last node, it is below n, its name has the hash, and no name behind it has
 pub record IsLast (nodes : List Node) (h n y : ℕ) : Type 0 where
@@ -39,12 +40,14 @@ last-none nodes h zero e x l = absurd (omega arith)
 last-none nodes h (suc n) e x l = go (has_hash h (name_of (slice_get nodes n))) refl (last-none nodes h n)
   where
     go : (t : Bool) → has_hash h (name_of (slice_get nodes n)) ≡ t
-        → (last_below nodes h n ≡ None → (x : ℕ) → x < n → has_hash h (name_of (slice_get nodes x)) ≡ false) → has_hash h (name_of (slice_get nodes x)) ≡ false
+        → (last_below nodes h n ≡ None → (x : ℕ) → x < n → has_hash h (name_of (slice_get nodes x)) ≡ false)
+        → has_hash h (name_of (slice_get nodes x)) ≡ false
     go true p i = absurd (none-some n (sym (rw (last_below, p) at e)))
     go false p i = elim (last-or_before x n l) [ inl b ↦ i (rw (last_below, p) at e) x b | inr same ↦ rw same p ]
 
 -- one more node: the last one where its name has the hash
-pub last-here : (nodes : List Node) (h n : ℕ) (name : List ℕ) → name_of (slice_get nodes n) ≡ Some name → hash_of name ≡ h → last_below nodes h (suc n) ≡ Some n
+pub last-here : (nodes : List Node) (h n : ℕ) (name : List ℕ) → name_of (slice_get nodes n) ≡ Some name → hash_of name ≡ h
+    → last_below nodes h (suc n) ≡ Some n
 last-here nodes h n name e is = let p : has_hash h (name_of (slice_get nodes n)) ≡ true = rw (e, is) (self-eq h) in rw (last_below, p) refl
 
 -- and the one before where it hasn't
@@ -64,7 +67,7 @@ pub next-first : (nodes : List Node) (name : List ℕ) (next : Option ℕ) → n
 next-first nodes name next e = record {
   bound = length nodes;
   next_is = e;
-  all_below = λ x k. let n = named-there (slice_get nodes x) name k in slice_get_within nodes x n.0 n.1;
+  all_below = λ x k. named-within nodes x name k;
 }
 
 -- a name that is the name passes the test of its hash
@@ -84,9 +87,7 @@ next-hashed nodes name next y e i =
 -- so it is a node
 pub next-within : (nodes : List Node) (name : List ℕ) (next : Option ℕ) (y : ℕ) → next ≡ Some y → IsNext nodes name next → y < length nodes
 next-within nodes name next y e i =
-    let o = next-hashed nodes name next y e i in
-    let n = named-there (slice_get nodes y) o.0 o.1 in
-    slice_get_within nodes y n.0 n.1
+    let o = next-hashed nodes name next y e i in named-within nodes y o.0 o.1
 
 -- where it hasn't the name, the one before it comes next
 pub next-before : (nodes : List Node) (name : List ℕ) (next : Option ℕ) (y : ℕ) (more : Option ℕ) → next ≡ Some y → IsNext nodes name next
@@ -105,7 +106,8 @@ next-before nodes name next y more e i other is = record { bound = y; next_is = 
         ]
 
 -- where nothing comes next, no node has the name
-pub next-none : (nodes : List Node) (name : List ℕ) (next : Option ℕ) → next ≡ None → IsNext nodes name next → (x : ℕ) → name_of (slice_get nodes x) ≢ Some name
+pub next-none : (nodes : List Node) (name : List ℕ) (next : Option ℕ) → next ≡ None → IsNext nodes name next → (x : ℕ)
+    → name_of (slice_get nodes x) ≢ Some name
 next-none nodes name next e i x k =
     true≢false (sym (hashed-name (name_of (slice_get nodes x)) name k) ∙ last-none nodes (hash_of name) i.bound (sym i.next_is ∙ e) x (i.all_below x k))
 

@@ -21,3 +21,4 @@ pub mod LastNodes
 pub mod Indexing
 pub mod Counting
 pub mod CodeNames
+pub mod FewPlaces

@@ -1,12 +1,13 @@
 -- The names of a code's nodes: no two nodes have one name.
-use Rattle.std.proofs.Common.{◌≡◌, ℕ, zero, suc, Bool, true, false, List, [], ◌∷◌, Option, Some, None, map, slice_get, refl, sym, ap, ◌∙◌, inl, inr, true≢false}
-use Rattle.std.proofs.lemmas.Option.{slice_get-map, none-some, same_Some}
+use Rattle.std.proofs.Common.{◌≡◌, ℕ, zero, suc, Bool, true, false, List, [], ◌∷◌, Option, Some, None, map, slice_get, length, ◌<◌, refl, sym, ap, ◌∙◌, inl}
+use Rattle.std.proofs.Common.{inr, true≢false}
+use Rattle.std.proofs.lemmas.Option.{slice_get-map, slice_get_within, none-some, same_Some}
 use Rattle.tam_word.specs.Lists.{any_of, all_differ, same_bytes}
 use Rattle.tam_word.proofs.Members.{In, in-any}
 use Rattle.tam_graph.specs.declared.node.Node.{Node}
 use Rattle.tam_graph.specs.Graphs.{Code}
 use Rattle.tam_graph.specs.Finding.{is_the_name, name_of, name_at}
-use Rattle.tam_graph.specs.Reading.{given_names, names_in, IsCode}
+use Rattle.tam_graph.specs.Reading.{given_names, IsCode}
 use Rattle.tam_graph.proofs.SameBytes.{same_self, same_equal}
 
 -- a name that is there is given
@@ -18,7 +19,8 @@ given-in (None ∷ ns) (suc y) a e = given-in ns y a e
 given-in (Some b ∷ ns) (suc y) a e = inr (given-in ns y a e)
 
 -- where names differ, none behind the first is the first, and those behind it differ
-pub differ-behind : (b : List ℕ) (bs : List (List ℕ)) → all_differ same_bytes (b ∷ bs) ≡ true → (any_of (same_bytes b) bs ≡ false) × (all_differ same_bytes bs ≡ true)
+pub differ-behind : (b : List ℕ) (bs : List (List ℕ)) → all_differ same_bytes (b ∷ bs) ≡ true
+    → (any_of (same_bytes b) bs ≡ false) × (all_differ same_bytes bs ≡ true)
 differ-behind b bs h = go (any_of (same_bytes b) bs) refl
   where
     go : (t : Bool) → any_of (same_bytes b) bs ≡ t → (any_of (same_bytes b) bs ≡ false) × (all_differ same_bytes bs ≡ true)
@@ -46,6 +48,10 @@ one-place (Some b ∷ ns) h (suc x) (suc y) a e f = ap suc (one-place ns (differ
 pub named-there : (o : Option Node) (a : List ℕ) → name_of o ≡ Some a → (n : Node) × (o ≡ Some n) × (n.name ≡ Some a)
 named-there None a e = absurd (none-some a e)
 named-there (Some n) a e = (n, refl, e)
+
+-- so its number is within the list
+pub named-within : (nodes : List Node) (x : ℕ) (a : List ℕ) → name_of (slice_get nodes x) ≡ Some a → x < length nodes
+named-within nodes x a e = let n = named-there (slice_get nodes x) a e in slice_get_within nodes x n.0 n.1
 
 -- no two nodes of a code have one name
 pub one-node : (c : Code) → IsCode c → (x y : ℕ) (a : List ℕ) → name_at c x ≡ Some a → name_at c y ≡ Some a → x ≡ y

@@ -4,5 +4,13 @@ use Rattle.std.specs.Prelude.{replicate}
 use Rattle.std.proofs.lemmas.List.{take_at, drop_at, drop-replicate}
 use Rattle.tam_graph.specs.Names.{IsName}
 
-pub padded : (name front : List ℕ) → front ≡ name → IsName name → IsName (take (length name) (front ++ drop (length name) (replicate 32 0))) × (drop (length name) (front ++ drop (length name) (replicate 32 0)) ≡ replicate (32 - length name) 0) × (length (take (length name) (front ++ drop (length name) (replicate 32 0))) ≡ length name)
-padded name front is named = rw (is, take_at name (drop (length name) (replicate 32 0)) (length name) refl, drop_at name (drop (length name) (replicate 32 0)) (length name) refl, drop-replicate {X = ℕ} (length name) 32 0) (named, refl, refl)
+pub padded : (name front : List ℕ) → front ≡ name → IsName name
+    → IsName (take (length name) (front ++ drop (length name) (replicate 32 0)))
+    × (drop (length name) (front ++ drop (length name) (replicate 32 0)) ≡ replicate (32 - length name) 0)
+    × (length (take (length name) (front ++ drop (length name) (replicate 32 0))) ≡ length name)
+padded name front is named = rw (
+  is,
+  take_at name (drop (length name) (replicate 32 0)) (length name) refl,
+  drop_at name (drop (length name) (replicate 32 0)) (length name) refl,
+  drop-replicate {X = ℕ} (length name) 32 0,
+) (named, refl, refl)

@@ -1,5 +1,6 @@
 -- A code whose nodes agree with a tree of lines, place by place, is visited as the tree is.
-use Rattle.std.proofs.Common.{◌≡◌, ℕ, zero, suc, ◌+◌, ◌<◌, ◌≤◌, ◌⊎◌, inl, inr, Bool, true, false, cond, eqb, List, [], ◌∷◌, ◌++◌, length, refl, sym, ap, subst, ◌∙◌, arith}
+use Rattle.std.proofs.Common.{◌≡◌, ℕ, zero, suc, ◌+◌, ◌<◌, ◌≤◌, ◌⊎◌, inl, inr, Bool, true, false, cond, eqb, List, [], ◌∷◌, ◌++◌, length, refl, sym, ap}
+use Rattle.std.proofs.Common.{subst, ◌∙◌, arith}
 use Rattle.std.specs.List.{flat_map, filter}
 use Rattle.std.proofs.lemmas.List.{append-nil}
 use Rattle.std.proofs.lemmas.List.Elements.{filter-append}
@@ -32,7 +33,8 @@ opened (Branch y n r) = suc (opened y + suc (opened n + opened r))
 abbrev pub visits_of : Items → ℕ → List Visit
 visits_of Done x = []
 visits_of (Plain r) x = AtNode x ∷ visits_of r (suc x)
-visits_of (Branch y n r) x = AtNode x ∷ (visits_of y (suc x) ++ (AtElse x ∷ visits_of n (suc x + size y) ++ AtEnd x ∷ [])) ++ visits_of r (suc x + size y + size n)
+visits_of (Branch y n r) x = AtNode x ∷ (visits_of y (suc x) ++ (AtElse x ∷ visits_of n (suc x + size y) ++ AtEnd x ∷ []))
+    ++ visits_of r (suc x + size y + size n)
 
 -- no cond
 abbrev pub is_plain : Kind → Bool
@@ -44,7 +46,8 @@ abbrev pub Agrees : Code → Items → ℕ → ℕ → ℕ → Type 0
 Agrees c Done b x k = Unit {0}
 Agrees c (Plain r) b x k = (block_at c x ≡ b) × (is_plain (kind_at c x) ≡ true) × Agrees c r b (suc x) k
 Agrees c (Branch y n r) b x k =
-    (block_at c x ≡ b) × ((p : ℕ) × (kind_at c x ≡ Cond p k (suc k + opened y))) × Agrees c y k (suc x) (suc k) × Agrees c n (suc k + opened y) (suc x + size y) (suc (suc k + opened y))
+    (block_at c x ≡ b) × ((p : ℕ) × (kind_at c x ≡ Cond p k (suc k + opened y))) × Agrees c y k (suc x) (suc k)
+    × Agrees c n (suc k + opened y) (suc x + size y) (suc (suc k + opened y))
     × Agrees c r b (suc x + size y + size n) (suc (suc k + opened y) + opened n)
 
 -- ---- numbers in a row
@@ -102,7 +105,10 @@ labels c (Branch y n r) b x k a z le lt =
         | inl in_y ↦ wider b k k (suc k) _ (suc k + opened y) (block_at c z) (labels c y k (suc x) (suc k) a.2 z (omega arith) in_y) (λ e. inr (omega (arith, e), omega (arith, e))) (omega arith) (omega arith)
         | inr past_y ↦ elim (cases_lt z (suc x + size y + size n)) [
           | inl in_n ↦ wider b (suc k + opened y) k (suc (suc k + opened y)) _ (suc (suc k + opened y) + opened n) (block_at c z)
-              (labels c n (suc k + opened y) (suc x + size y) (suc (suc k + opened y)) a.3 z past_y in_n) (λ e. inr (omega (arith, e), omega (arith, e))) (omega arith) (omega arith)
+              (labels c n (suc k + opened y) (suc x + size y) (suc (suc k + opened y)) a.3 z past_y in_n) (λ e. inr (
+                omega (arith, e),
+                omega (arith, e),
+              )) (omega arith) (omega arith)
           | inr past_n ↦ wider b b k (suc (suc k + opened y) + opened n) _ (suc (suc k + opened y) + opened n + opened r) (block_at c z)
               (labels c r b (suc x + size y + size n) (suc (suc k + opened y) + opened n) a.4 z past_n (omega arith)) (λ e. inl e) (omega arith) (omega arith)
         ]
@@ -110,15 +116,18 @@ labels c (Branch y n r) b x k a z le lt =
     ]
 
 -- the nodes of a block that stand in a row
-nodes_within : (c : Code) (d x m r : ℕ) → length c.nodes ≡ x + (m + r) → ((z : ℕ) → (z < x) ⊎ (x + m ≤ z) → block_at c z ≡ d → ⊥) → nodes_in c d ≡ filter (λ z. eqb (block_at c z) d) (rising x m)
+nodes_within : (c : Code) (d x m r : ℕ) → length c.nodes ≡ x + (m + r) → ((z : ℕ) → (z < x) ⊎ (x + m ≤ z) → block_at c z ≡ d → ⊥)
+    → nodes_in c d ≡ filter (λ z. eqb (block_at c z) d) (rising x m)
 nodes_within c d x m r e out =
     let test : ℕ → Bool = λ z. eqb (block_at c z) d in
     let zero_x : 0 + x ≡ x = omega arith in
     let all : node_numbers c ≡ rising 0 x ++ (rising x m ++ rising (x + m) r) =
-    below-rising (length c.nodes) ∙ ap (rising 0) e ∙ rising-split 0 x (m + r) ∙ ap (λ k. rising 0 x ++ rising k (m + r)) zero_x ∙ ap (λ xs. rising 0 x ++ xs) (rising-split x m r) in
+    below-rising (length c.nodes) ∙ ap (rising 0) e ∙ rising-split 0 x (m + r) ∙ ap (λ k. rising 0 x ++ rising k (m + r)) zero_x
+    ∙ ap (λ xs. rising 0 x ++ xs) (rising-split x m r) in
     let front : filter test (rising 0 x) ≡ [] = none_pass test 0 x (λ z lo hi. ne_eqb (block_at c z) d (out z (inl (omega arith)))) in
     let back : filter test (rising (x + m) r) ≡ [] = none_pass test (x + m) r (λ z lo hi. ne_eqb (block_at c z) d (out z (inr lo))) in
-    ap (filter test) all ∙ filter-split test (rising 0 x) (rising x m ++ rising (x + m) r) ∙ ap (λ xs. xs ++ filter test (rising x m ++ rising (x + m) r)) front
+    ap (filter test) all ∙ filter-split test (rising 0 x) (rising x m ++ rising (x + m) r)
+    ∙ ap (λ xs. xs ++ filter test (rising x m ++ rising (x + m) r)) front
     ∙ filter-split test (rising x m) (rising (x + m) r) ∙ ap (λ xs. filter test (rising x m) ++ xs) back ∙ append-nil (filter test (rising x m))
 
 -- ---- the visits
@@ -229,7 +238,8 @@ not_outer b k most w (inl h) low e = omega arith
 not_outer b k most w (inr h) low e = omega (arith, h.0)
 
 -- the nodes of a tree in a row, each with what stands behind it
-in_row : (f : ℕ) (c : Code) (t : Items) (b x k : ℕ) → Agrees c t b x k → b < k → opened t ≤ f → IsWithin c t x k → flat_map (step f c) (filter (λ z. eqb (block_at c z) b) (rising x (size t))) ≡ visits_of t x
+in_row : (f : ℕ) (c : Code) (t : Items) (b x k : ℕ) → Agrees c t b x k → b < k → opened t ≤ f → IsWithin c t x k
+    → flat_map (step f c) (filter (λ z. eqb (block_at c z) b) (rising x (size t))) ≡ visits_of t x
 in_row f c Done b x k a low deep w = refl
 in_row f c (Plain r) b x k a low deep w =
     let first = passes c b x (rising (suc x) (size r)) a.0 in
@@ -249,12 +259,15 @@ in_row (suc f) c (Branch y n r) b x k a low deep w =
     let none_y : filter test (rising (suc x) (size y)) ≡ [] = none_pass test (suc x) (size y) (λ z lo hi. ne_eqb (block_at c z) b (not_outer b k j (block_at c z) (labels c y k (suc x) (suc k) a.2 z lo hi) low)) in
     let none_n : filter test (rising u (size n)) ≡ [] = none_pass test u (size n) (λ z lo hi. ne_eqb (block_at c z) b (not_outer b j m (block_at c z) (labels c n j u (suc j) a.3 z lo hi) (omega arith))) in
     let kept : filter test (rising (suc x) (size y + (size n + size r))) ≡ filter test (rising v (size r)) =
-    ap (filter test) all ∙ filter-split test (rising (suc x) (size y)) (rising u (size n) ++ rising v (size r)) ∙ ap (λ xs. xs ++ filter test (rising u (size n) ++ rising v (size r))) none_y
+    ap (filter test) all ∙ filter-split test (rising (suc x) (size y)) (rising u (size n) ++ rising v (size r))
+    ∙ ap (λ xs. xs ++ filter test (rising u (size n) ++ rising v (size r))) none_y
     ∙ filter-split test (rising u (size n)) (rising v (size r)) ∙ ap (λ xs. xs ++ filter test (rising v (size r))) none_n in
     let row_y : nodes_in c k ≡ filter (λ z. eqb (block_at c z) k) (rising (suc x) (size y)) =
-    nodes_within c k (suc x) (size y) (size n + (size r + w.behind)) (w.count ∙ omega arith) (λ z o. not_at k j k (block_at c z) (out_y c y n r b x k a low w z o) (omega arith) (omega arith)) in
+    nodes_within c k (suc x) (size y) (size n + (size r + w.behind)) (w.count
+    ∙ omega arith) (λ z o. not_at k j k (block_at c z) (out_y c y n r b x k a low w z o) (omega arith) (omega arith)) in
     let row_n : nodes_in c j ≡ filter (λ z. eqb (block_at c z) j) (rising u (size n)) =
-    nodes_within c j u (size n) (size r + w.behind) (w.count ∙ omega arith) (λ z o. not_at j m j (block_at c z) (out_n c y n r b x k a low w z o) (omega arith) (omega arith)) in
+    nodes_within c j u (size n) (size r + w.behind) (w.count
+    ∙ omega arith) (λ z o. not_at j m j (block_at c z) (out_n c y n r b x k a low w z o) (omega arith) (omega arith)) in
     let in_y : IsWithin c y (suc x) (suc k) = record {
       apart = λ z o. narrower k j (suc k) (suc k + opened y) (block_at c z) (out_y c y n r b x k a low w z o) (omega arith) (omega arith);
       behind = size n + (size r + w.behind);
@@ -266,20 +279,26 @@ in_row (suc f) c (Branch y n r) b x k a low deep w =
       count = w.count ∙ omega arith;
     } in
     let in_r : IsWithin c r v m = record { apart = λ z o. out_r c y n r b x k a low w z o; behind = w.behind; count = w.count ∙ omega arith } in
-    let then_part : visits (suc f) c k ≡ visits_of y (suc x) = ap (flat_map (step f c)) row_y ∙ in_row f c y k (suc x) (suc k) a.2 (omega arith) (omega arith) in_y in
+    let then_part : visits (suc f) c k ≡ visits_of y (suc x) = ap (flat_map (step f c)) row_y
+    ∙ in_row f c y k (suc x) (suc k) a.2 (omega arith) (omega arith) in_y in
     let else_part : visits (suc f) c j ≡ visits_of n u = ap (flat_map (step f c)) row_n ∙ in_row f c n j u (suc j) a.3 (omega arith) (omega arith) in_n in
     let rest_part = in_row (suc f) c r b v m a.4 (omega arith) (omega arith) in_r in
     let here : branches (visits (suc f) c) x (kind_at c x) ≡ visits_of y (suc x) ++ (AtElse x ∷ visits_of n u ++ AtEnd x ∷ []) =
-    ap (branches (visits (suc f) c) x) (a.1).1 ∙ ap (λ vs. vs ++ (AtElse x ∷ visits (suc f) c j ++ AtEnd x ∷ [])) then_part ∙ ap (λ vs. visits_of y (suc x) ++ (AtElse x ∷ vs ++ AtEnd x ∷ [])) else_part in
-    ap (flat_map (step (suc f) c)) (passes c b x (rising (suc x) (size y + (size n + size r))) a.0 ∙ ap (λ xs. x ∷ xs) kept) ∙ flat_map-cons (step (suc f) c) x (filter test (rising v (size r)))
-    ∙ ap (λ vs. (AtNode x ∷ vs) ++ flat_map (step (suc f) c) (filter test (rising v (size r)))) here ∙ ap (λ vs. (AtNode x ∷ (visits_of y (suc x) ++ (AtElse x ∷ visits_of n u ++ AtEnd x ∷ []))) ++ vs) rest_part
+    ap (branches (visits (suc f) c) x) (a.1).1 ∙ ap (λ vs. vs ++ (AtElse x ∷ visits (suc f) c j ++ AtEnd x ∷ [])) then_part
+    ∙ ap (λ vs. visits_of y (suc x) ++ (AtElse x ∷ vs ++ AtEnd x ∷ [])) else_part in
+    ap (flat_map (step (suc f) c)) (passes c b x (rising (suc x) (size y + (size n + size r))) a.0 ∙ ap (λ xs. x ∷ xs) kept)
+    ∙ flat_map-cons (step (suc f) c) x (filter test (rising v (size r)))
+    ∙ ap (λ vs. (AtNode x ∷ vs) ++ flat_map (step (suc f) c) (filter test (rising v (size r)))) here
+    ∙ ap (λ vs. (AtNode x ∷ (visits_of y (suc x) ++ (AtElse x ∷ visits_of n u ++ AtEnd x ∷ []))) ++ vs) rest_part
 
 -- a code that agrees with a tree, and has no more nodes, is visited as the tree is
-pub visits-is : (f : ℕ) (c : Code) (t : Items) → Agrees c t 0 0 1 → length c.nodes ≡ size t → opened t ≤ f → ((z : ℕ) → size t ≤ z → block_at c z ≡ 0) → visits (suc f) c 0 ≡ visits_of t 0
+pub visits-is : (f : ℕ) (c : Code) (t : Items) → Agrees c t 0 0 1 → length c.nodes ≡ size t → opened t ≤ f → ((z : ℕ) → size t ≤ z → block_at c z ≡ 0)
+    → visits (suc f) c 0 ≡ visits_of t 0
 visits-is f c t a all deep none =
     let zero_n : 0 + size t ≡ size t = omega arith in
     let w : IsWithin c t 0 1 = record { apart = λ z o. inl (outside_all z o); behind = 0; count = all ∙ omega arith } in
-    ap (λ xs. flat_map (step f c) (filter (λ z. eqb (block_at c z) 0) xs)) (below-rising (length c.nodes) ∙ ap (rising 0) all) ∙ in_row f c t 0 0 1 a (omega arith) deep w
+    ap (λ xs. flat_map (step f c) (filter (λ z. eqb (block_at c z) 0) xs)) (below-rising (length c.nodes) ∙ ap (rising 0) all)
+    ∙ in_row f c t 0 0 1 a (omega arith) deep w
   where
     outside_all : (z : ℕ) → (z < 0) ⊎ (0 + size t ≤ z) → block_at c z < 1
     outside_all z (inl h) = absurd (omega arith)

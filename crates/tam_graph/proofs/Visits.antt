@@ -1,5 +1,5 @@
 -- What the visits of a code's lines have in them: nodes, the blocks that conds open, and the visits of branches.
-use Rattle.std.proofs.Common.{◌≡◌, ℕ, zero, suc, ◌<◌, ◌⊎◌, inl, inr, ⊎_elim, List, [], ◌∷◌, ◌++◌, flat_map, Option, Some, None, length, refl, sym, ap, subst, ◌==◌, true}
+use Rattle.std.proofs.Common.{◌≡◌, ℕ, zero, suc, ◌<◌, ◌⊎◌, inl, inr, ⊎_elim, List, [], ◌∷◌, ◌++◌, Option, Some, refl, sym, subst, ◌==◌}
 use Rattle.tam_graph.specs.declared.kind.Kind.{Kind}
 use Rattle.tam_graph.specs.declared.kind.Kind.TheVariants.{Cond}
 use Rattle.tam_graph.specs.Graphs.{Code, kind_at, block_at, nodes_in, node_numbers}
@@ -115,7 +115,8 @@ blocks-below limit (suc fuel) c b l h x a = at (visited fuel c b (AtNode x) a) (
     in-block z m = let same : block_at c z ≡ b = number-eq (block_at c z) b (in-filter (λ y. block_at c y == b) z (node_numbers c) m).1 in rw same l
 
     at : Visited fuel c b (AtNode x)
-        → ((d : ℕ) → d < limit → ((o : ℕ × Option ℕ) → In o (in_opening_order fuel c d) → o.0 < limit) → In (AtNode x) (visits fuel c d) → block_at c x < limit)
+        → ((d : ℕ) → d < limit → ((o : ℕ × Option ℕ) → In o (in_opening_order fuel c d) → o.0 < limit) → In (AtNode x) (visits fuel c d)
+        → block_at c x < limit)
         → block_at c x < limit
     at (Here z m same) deep = let is : x ≡ z = cc in rw is (in-block z m)
     at (Behind z m k) deep = within (in-branches (visits fuel c) z (kind_at c z) x k)

@@ -2,10 +2,12 @@
 use Rattle.std.specs.Prelude.{ℕ, suc, ◌≡◌, Bool, true, false, ◌&&◌, ◌||◌, not, ◌==◌, nat_lt, List, [], ◌++◌, map, filter, flat_map, length}
 use Rattle.tam_word.specs.Lists.{below, any_of, all_of, first_of, has, beyond, where_so}
 use Rattle.tam_graph.specs.declared.kind.Kind.{Kind}
-use Rattle.tam_graph.specs.declared.kind.Kind.TheVariants.{Param, Const, Op as Operate, Seq, Call, Arg, Ret, Give, Alloc, Fetch, Store, Cond, Switch, Merge, Enter, Leave}
+use Rattle.tam_graph.specs.declared.kind.Kind.TheVariants.{Param, Const, Op as Operate, Seq, Call, Arg, Ret, Give, Alloc, Fetch, Store, Cond, Switch, Merge}
+use Rattle.tam_graph.specs.declared.kind.Kind.TheVariants.{Enter, Leave}
 use Rattle.tam_graph.specs.declared.check_cause.CheckCause.{CheckCause}
 use Rattle.tam_graph.specs.declared.check_cause.CheckCause.TheVariants.{WrongBlock, PlaceTwice, PlaceRange, PlaceMissing, DepthMismatch, MainType, Cycle}
-use Rattle.tam_graph.specs.Graphs.{Code, Graph, code_of, kind_at, block_at, depth_at, node_numbers, nodes_in, operands_of, is_split, callee_of, owner_of, is_param, is_ret, is_merge, is_enter, is_leave, is_arg, number_of, params_of, results_of}
+use Rattle.tam_graph.specs.Graphs.{Code, Graph, code_of, kind_at, block_at, depth_at, node_numbers, nodes_in, operands_of, is_split, callee_of, owner_of}
+use Rattle.tam_graph.specs.Graphs.{is_param, is_ret, is_merge, is_enter, is_leave, is_arg, number_of, params_of, results_of}
 use Rattle.tam_graph.specs.Edges.{Edges, reaches_itself}
 use Rattle.tam_graph.specs.Written.{named_by, IsWritten}
 

@@ -2,7 +2,8 @@
 use Rattle.std.specs.Prelude.{ℕ, [], ◌∷◌, Some, None, map}
 use Rattle.tam_word.specs.declared.op.Op.TheVariants.{Add}
 use Rattle.tam_graph.specs.declared.kind.Kind.{Kind}
-use Rattle.tam_graph.specs.declared.kind.Kind.TheVariants.{Param, Const, Op as Operate, Seq, Call, Arg, Ret, Give, Alloc, Fetch, Store, Cond, Switch, Merge, Enter, Leave}
+use Rattle.tam_graph.specs.declared.kind.Kind.TheVariants.{Param, Const, Op as Operate, Seq, Call, Arg, Ret, Give, Alloc, Fetch, Store, Cond, Switch, Merge}
+use Rattle.tam_graph.specs.declared.kind.Kind.TheVariants.{Enter, Leave}
 use Rattle.tam_graph.specs.declared.node.Node.{Node}
 use Rattle.tam_graph.specs.Graphs.{Code, Graph, main_name}
 
@@ -24,11 +25,19 @@ sum_graph = record { codes = sum_main ∷ []; main = 0 }
 
 -- the caller of a code whose second param is its own first result
 abbrev pub back_main : Code
-back_main = record { name = main_name; nodes = map (plain 0) (Param 0 ∷ Call 1 ∷ Arg 1 0 0 ∷ Ret 1 0 ∷ Arg 1 1 3 ∷ Ret 1 1 ∷ Give 0 5 ∷ []); owners = None ∷ [] }
+back_main = record {
+  name = main_name;
+  nodes = map (plain 0) (Param 0 ∷ Call 1 ∷ Arg 1 0 0 ∷ Ret 1 0 ∷ Arg 1 1 3 ∷ Ret 1 1 ∷ Give 0 5 ∷ []);
+  owners = None ∷ [];
+}
 
 -- that code: two params and two results
 abbrev pub back_callee : Code
-back_callee = record { name = main_name; nodes = map (plain 0) (Param 0 ∷ Param 1 ∷ Const 1 ∷ Operate Add 0 2 ∷ Operate Add 1 3 ∷ Give 0 3 ∷ Give 1 4 ∷ []); owners = None ∷ [] }
+back_callee = record {
+  name = main_name;
+  nodes = map (plain 0) (Param 0 ∷ Param 1 ∷ Const 1 ∷ Operate Add 0 2 ∷ Operate Add 1 3 ∷ Give 0 3 ∷ Give 1 4 ∷ []);
+  owners = None ∷ [];
+}
 
 -- a graph of both
 abbrev pub back_graph : Graph
@@ -52,7 +61,14 @@ loop_graph = record { codes = loop_main ∷ []; main = 0 }
 
 -- a fetch of a cell that another fetch or store may come before
 abbrev pub cell_graph : Graph
-cell_graph = record { codes = record { name = main_name; nodes = deep 0 (Param 0) ∷ deep 0 (Const 1) ∷ deep 1 (Alloc 1) ∷ deep 0 (Const 0) ∷ deep 0 (Fetch 2 3) ∷ deep 0 (Store 2 3 0) ∷ deep 0 (Give 0 4) ∷ []; owners = None ∷ [] } ∷ []; main = 0 }
+cell_graph = record {
+  codes = record {
+    name = main_name;
+    nodes = deep 0 (Param 0) ∷ deep 0 (Const 1) ∷ deep 1 (Alloc 1) ∷ deep 0 (Const 0) ∷ deep 0 (Fetch 2 3) ∷ deep 0 (Store 2 3 0) ∷ deep 0 (Give 0 4) ∷ [];
+    owners = None ∷ [];
+  } ∷ [];
+  main = 0;
+}
 
 -- two stores into one cell
 abbrev pub twice_graph : Graph
@@ -75,4 +91,11 @@ nothing_graph = record { codes = record { name = main_name; nodes = []; owners =
 
 -- x = param 0 / n = const 1 / A:1 = alloc n / z = const 0 / v = fetch A z / store A z x / s = seq v A / result 0 s
 abbrev pub seq_graph : Graph
-seq_graph = record { codes = record { name = main_name; nodes = deep 0 (Param 0) ∷ deep 0 (Const 1) ∷ deep 1 (Alloc 1) ∷ deep 0 (Const 0) ∷ deep 0 (Fetch 2 3) ∷ deep 0 (Store 2 3 0) ∷ deep 0 (Seq 4 2) ∷ deep 0 (Give 0 6) ∷ []; owners = None ∷ [] } ∷ []; main = 0 }
+seq_graph = record {
+  codes = record {
+    name = main_name;
+    nodes = deep 0 (Param 0) ∷ deep 0 (Const 1) ∷ deep 1 (Alloc 1) ∷ deep 0 (Const 0) ∷ deep 0 (Fetch 2 3) ∷ deep 0 (Store 2 3 0) ∷ deep 0 (Seq 4 2) ∷ deep 0 (Give 0 6) ∷ [];
+    owners = None ∷ [];
+  } ∷ [];
+  main = 0;
+}

@@ -1,9 +1,11 @@
 -- A dataflow graph as lists: codes, each a list of nodes over all its blocks.
-use Rattle.std.specs.Prelude.{ℕ, zero, suc, ◌^◌, ◌≡◌, ◌<◌, Bool, true, false, ◌&&◌, ◌||◌, not, ◌==◌, List, [], ◌∷◌, filter, Option, Some, None, slice_get, length, count_by, codes}
+use Rattle.std.specs.Prelude.{ℕ, zero, suc, ◌^◌, ◌≡◌, ◌<◌, Bool, true, false, ◌&&◌, ◌||◌, not, ◌==◌, List, [], ◌∷◌, filter, Option, Some, None, slice_get}
+use Rattle.std.specs.Prelude.{length, count_by, codes}
 use Rattle.std.specs.List.{position_or_len}
 use Rattle.tam_word.specs.Lists.{below, first_of, same_bytes}
 use Rattle.tam_graph.specs.declared.kind.Kind.{Kind}
-use Rattle.tam_graph.specs.declared.kind.Kind.TheVariants.{Param, Const, Op as Operate, Seq, Call, Arg, Ret, Give, Alloc, Fetch, Store, Cond, Switch, Merge, Enter, Leave}
+use Rattle.tam_graph.specs.declared.kind.Kind.TheVariants.{Param, Const, Op as Operate, Seq, Call, Arg, Ret, Give, Alloc, Fetch, Store, Cond, Switch, Merge}
+use Rattle.tam_graph.specs.declared.kind.Kind.TheVariants.{Enter, Leave}
 use Rattle.tam_graph.specs.declared.node.Node.{Node}
 
 -- the name of the code where a run begins

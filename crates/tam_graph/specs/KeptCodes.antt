@@ -1,5 +1,5 @@
 -- What a code keeps beside its parts: how many params and results it has, and the index of its nodes.
-use Rattle.std.specs.Prelude.{ℕ, ◌≡◌}
+use Rattle.std.specs.Prelude.{◌≡◌}
 use Rattle.tam_graph.specs.declared.code.Code.TheInside.{Inside}
 use Rattle.tam_graph.specs.Graphs.{Code, is_any_param, is_any_give}
 use Rattle.tam_graph.specs.NodeLists.{number_where}

@@ -1,6 +1,6 @@
 -- What a name is.
 -- The rule in words: docs/FORMATS.md, "Graph text".
-use Rattle.std.specs.Prelude.{ℕ, Bool, true, false, ◌&&◌, ◌||◌, ◌==◌, nat_lt, nat_le, List, [], ◌∷◌, length, IsTrue}
+use Rattle.std.specs.Prelude.{ℕ, Bool, false, ◌&&◌, ◌||◌, ◌==◌, nat_lt, nat_le, List, [], ◌∷◌, length, IsTrue}
 use Rattle.tam_word.specs.Lists.{all_of}
 
 -- a letter or `_`

@@ -13,5 +13,6 @@ unpadded name = record { bytes = name ++ replicate (32 - length name) 0; len = l
 
 pub padded_again : (n : Inside) → IsPadded n → unpadded (take n.len n.bytes) ≡ n
 padded_again n h =
-    let same_bytes : take n.len n.bytes ++ replicate (32 - n.len) 0 ≡ n.bytes = ap (λ (l : List ℕ). take n.len n.bytes ++ l) (sym h.1) ∙ take-append-drop n.len n.bytes in
+    let same_bytes : take n.len n.bytes ++ replicate (32 - n.len) 0 ≡ n.bytes = ap (λ (l : List ℕ). take n.len n.bytes ++ l) (sym h.1)
+    ∙ take-append-drop n.len n.bytes in
     rw h.2 (ap (λ (l : List ℕ). let i : Inside = record { bytes = l; len = n.len } in i) same_bytes)

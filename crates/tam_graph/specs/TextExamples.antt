@@ -9,7 +9,11 @@ use Rattle.tam_graph.specs.Graphs.{Graph, graph_of}
 
 -- a code that calls itself
 abbrev pub itself : Graph
-itself = graph_of (record { name = codes "main"; nodes = record { name = Some (codes "f"); depth = 0; block = 0; kind = Call 0 } ∷ []; owners = None ∷ [] } ∷ [])
+itself = graph_of (record {
+  name = codes "main";
+  nodes = record { name = Some (codes "f"); depth = 0; block = 0; kind = Call 0 } ∷ [];
+  owners = None ∷ [];
+} ∷ [])
 
 -- the canonical text, and another text of the same graph
 canonical_text : canonical itself ≡ codes "dg 1" ++ (10 ∷ codes "code main" ++ (10 ∷ codes "f = call main" ++ (10 ∷ codes "end" ++ 10 ∷ [])))

@@ -1,12 +1,14 @@
 -- The text of a graph: its names, its lines as tokens, and the canonical text.
 use Rattle.std.specs.Prelude.{ℕ, zero, suc, Bool, true, false, ◌==◌, List, [], ◌∷◌, ◌++◌, flat_map, map, Option, Some, None, slice_get, length, decimal, codes}
+use Rattle.tam_word.specs.declared.op.Op.{Op}
+use Rattle.tam_word.specs.declared.op.Op.TheVariants.{Add, Sub, Mul, Div, Divu, Rem, Remu, And, Or, Xor, Sll, Srl, Sra, Slt, Sltu, Eq}
 use Rattle.tam_graph.specs.declared.node.Node.{Node}
 use Rattle.tam_graph.specs.declared.kind.Kind.{Kind}
-use Rattle.tam_graph.specs.declared.kind.Kind.TheVariants.{Param, Const, Op as Operate, Seq, Call, Arg, Ret, Give, Alloc, Fetch, Store, Cond, Switch, Merge, Enter, Leave}
+use Rattle.tam_graph.specs.declared.kind.Kind.TheVariants.{Param, Const, Op as Operate, Seq, Call, Arg, Ret, Give, Alloc, Fetch, Store, Cond, Switch, Merge}
+use Rattle.tam_graph.specs.declared.kind.Kind.TheVariants.{Enter, Leave}
 use Rattle.tam_graph.specs.Graphs.{Code, Graph, code_of, kind_at, depth_at}
 use Rattle.tam_graph.specs.Written.{Visit, AtNode, AtElse, AtEnd, visits}
 use Rattle.tam_word.specs.Words.{signed_text}
-use Rattle.tam_word.specs.OpNames.{op_name}
 use Rattle.tam_word.specs.Numbers.{word_of}
 
 -- ---- words
@@ -25,6 +27,25 @@ abbrev pub Line : Type 0
 Line = List Token
 
 -- ---- the lines of a graph
+
+-- the name of an operator
+abbrev pub op_name : Op → List ℕ
+op_name Add = codes "add"
+op_name Sub = codes "sub"
+op_name Mul = codes "mul"
+op_name Div = codes "div"
+op_name Divu = codes "divu"
+op_name Rem = codes "rem"
+op_name Remu = codes "remu"
+op_name And = codes "and"
+op_name Or = codes "or"
+op_name Xor = codes "xor"
+op_name Sll = codes "sll"
+op_name Srl = codes "srl"
+op_name Sra = codes "sra"
+op_name Slt = codes "slt"
+op_name Sltu = codes "sltu"
+op_name Eq = codes "eq"
 
 -- no bytes where there is no name
 abbrev pub or_bytes : Option (List ℕ) → List ℕ

@@ -1,8 +1,10 @@
 -- What the text of a graph makes sure of, names aside: the order of nodes and blocks, what lines name, and the limits.
-use Rattle.std.specs.Prelude.{ℕ, zero, suc, ◌^◌, ◌≡◌, Bool, true, false, ◌&&◌, not, nat_lt, nat_le, List, [], ◌∷◌, ◌++◌, flat_map, Option, Some, None, length, zip, sum_by}
+use Rattle.std.specs.Prelude.{ℕ, zero, suc, ◌^◌, ◌≡◌, Bool, true, false, ◌&&◌, not, nat_lt, nat_le, List, [], ◌∷◌, ◌++◌, flat_map, Option, Some, None, length}
+use Rattle.std.specs.Prelude.{zip, sum_by}
 use Rattle.tam_word.specs.Lists.{all_of}
 use Rattle.tam_graph.specs.declared.kind.Kind.{Kind}
-use Rattle.tam_graph.specs.declared.kind.Kind.TheVariants.{Param, Const, Op as Operate, Seq, Call, Arg, Ret, Give, Alloc, Fetch, Store, Cond, Switch, Merge, Enter, Leave}
+use Rattle.tam_graph.specs.declared.kind.Kind.TheVariants.{Param, Const, Op as Operate, Seq, Call, Arg, Ret, Give, Alloc, Fetch, Store, Cond, Switch, Merge}
+use Rattle.tam_graph.specs.declared.kind.Kind.TheVariants.{Enter, Leave}
 use Rattle.tam_graph.specs.Graphs.{Code, kind_at, block_at, depth_at, node_numbers, nodes_in, blocks_of, has_value, owner_of, is_split}
 
 -- what a line names

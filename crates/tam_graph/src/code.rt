@@ -1,5 +1,5 @@
 // A code.
-ghost use Rattle.std.specs.Prelude.{ℕ, ◌≡◌, ◌≤◌, length, IfSome};
+ghost use Rattle.std.specs.Prelude.{ℕ, ◌≡◌, ◌<◌, ◌≤◌, length, IfSome};
 ghost use Rattle.tam_graph.specs.Graphs.{params_of, results_of, is_any_param, is_any_give};
 ghost use Rattle.tam_graph.specs.Reading.{IsCode};
 ghost use Rattle.tam_graph.specs.NodeLists.{number_where};
@@ -93,7 +93,7 @@ impl Code {
 
     /// The number of the node of this name.
     pub fn find(&self, name: &[u8]) -> Option<u32>
-        ensures found { IfSome result (λ x. name_at self.now x ≡ Some name.now) }
+        ensures found { IfSome result (λ x. (x < length self.now.nodes) × (name_at self.now x ≡ Some name.now)) }
 
         // No two nodes have one name.
         ensures only { (x : ℕ) → name_at self.now x ≡ Some name.now → result ≡ Some x }

@@ -1,11 +1,11 @@
-// Finding the nodes of a code by their names, without memory of their own.
+// Finding the nodes of a code by their names, in a table of fixed size.
 ghost use Rattle.std.specs.Prelude.{ℕ, ◌≡◌, ◌≢◌, ◌<◌, ◌≤◌, length, slice_get, IfSome, IfNone};
 ghost use Rattle.tam_graph.specs.Finding.{is_called, name_of};
 ghost use Rattle.tam_graph.specs.Hashes.{hash_of, IsIndexOf};
 
 use crate::Node;
 
-pub const MAX_NODES: usize = 1024;
+const MAX_NODES: usize = 1024;
 
 const HASHES: usize = 256;
 

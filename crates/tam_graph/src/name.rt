@@ -59,7 +59,7 @@ impl Name {
 
     /// Whether the name is these bytes.
     pub fn is(&self, bytes: &[u8]) -> bool
-        ensures same { result ≡ same_bytes bytes.now self.now }
+        ensures value { result ≡ same_bytes bytes.now self.now }
     {
         bytes == self.bytes()
     }
@@ -98,5 +98,32 @@ fn is_name(bytes: &[u8]) -> bool
     match bytes {
         [] => false,
         [first, rest @ ..] => is_letter(*first) && rest.len() < LONGEST && continue_name(rest),
+    }
+}
+
+#[cfg(test)]
+mod tests {
+    use super::*;
+
+    #[test]
+    fn names_are_told_from_other_bytes(rt: HostRuntime) {
+        let cases: [(&[u8], bool); 10] = [
+            (b"a", true),
+            (b"_", true),
+            (b"Z9_z", true),
+            (b"abcdefghijklmnopqrstuvwxyz012345", true),
+            (b"abcdefghijklmnopqrstuvwxyz0123456", false),
+            (b"", false),
+            (b"9a", false),
+            (b"a-b", false),
+            (b"a ", false),
+            (b"\xc3\xa9", false),
+        ];
+        for (bytes, is_name) in cases {
+            match Name::of(bytes) {
+                Some(name) => assert!(rt; is_name && name.is(bytes), "at {bytes:?}"),
+                None => assert!(rt; !is_name, "at {bytes:?}"),
+            }
+        }
     }
 }

@@ -7,11 +7,23 @@
 #[derive(Clone, Copy, Debug, PartialEq, Eq)]
 pub enum Message {
     /// A word for an inlet.
-    Word { frame: u32, inlet: u32, word: u32 },
+    Word {
+        frame: u32,
+        inlet: u32,
+        word: u32,
+    },
     /// The wish for an activation of a code; its number goes to the asker's inlet.
-    Frame { code: u32, frame: u32, inlet: u32 },
+    Frame {
+        code: u32,
+        frame: u32,
+        inlet: u32,
+    },
     /// The wish for an array of so many cells; its number goes to the asker's inlet.
-    Cells { len: u32, frame: u32, inlet: u32 },
+    Cells {
+        len: u32,
+        frame: u32,
+        inlet: u32,
+    },
     /// The wish for the word of a cell.
     Fetch {
         array: u32,

@@ -32,7 +32,8 @@ not-split c b v i p q = go (is_split (kind_at c v.node)) refl
     go false e = e
 
 -- an edge of vertices to what isn't an ask is an edge of nodes
-pub node-edge : (c : Code) (b : ℕ) (u v : Vertex) → In v (vertices_in c b) → is_ask v.half ≡ false → feeds c u v ≡ true → In (u.node, v.node) (value_edges c b)
+pub node-edge : (c : Code) (b : ℕ) (u v : Vertex) → In v (vertices_in c b) → is_ask v.half ≡ false → feeds c u v ≡ true
+    → In (u.node, v.node) (value_edges c b)
 node-edge c b u v i p f =
     let r = feeds-parts c u v f in
     let s = not-split c b v i p r.1 in
@@ -52,8 +53,11 @@ node-reaches c b u v i p f = edge-reaches (value_edges c b) u.node v.node (in-is
 pub walk-nodes : (c : Code) (b : ℕ) {i j : ℕ} → Walk (edges_among c (vertices_in c b)) i j → (u v : Vertex) → slice_get (vertices_in c b) i ≡ Some u
     → slice_get (vertices_in c b) j ≡ Some v → is_ask v.half ≡ false → (is_ask u.half ≡ false) × (reaches (value_edges c b) u.node v.node ≡ true)
 walk-nodes c b Stay u v p q a =
-    let e : u ≡ v = same_Some u v (sym p ∙ q) in
-    (ap (λ (w : Vertex). is_ask w.half) e ∙ a, subst (λ (w : Vertex). reaches (value_edges c b) u.node w.node ≡ true) e (reaches-self (value_edges c b) u.node))
+    let e : u ≡ v = same_Some u v (sym p ∙ q) in (
+      ap (λ (w : Vertex). is_ask w.half) e
+          ∙ a,
+      subst (λ (w : Vertex). reaches (value_edges c b) u.node w.node ≡ true) e (reaches-self (value_edges c b) u.node),
+    )
 walk-nodes c b (Along {x = i} {y = m} {z = j} e w) u v p q a =
     let f = in-fed c (vertices_in c b) (i, m) (is_edge-in (edges_among c (vertices_in c b)) i m e) in
     let r = walk-nodes c b w f.taker v f.at_taker q a in

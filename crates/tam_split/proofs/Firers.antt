@@ -333,20 +333,27 @@ pub edge-operand : (c : Code) (b d k x : ℕ) → Firer c b k x → In (d, k) (e
 edge-operand c b d k x f h =
     let e = in-fed c (vertices_in c b) (d, k) h in
     let p = feeds-parts c e.giver e.taker e.fed in
-    let n : e.taker.node ≡ x = ap (λ (v : Vertex). v.node) (same_Some e.taker f.vertex (sym e.at_taker ∙ f.stands)) ∙ f.of_node in
-    (e.giver.node, subst (λ y. In e.giver.node (operands_of c (kind_at c y))) n p.2, record { vertex = e.giver; stands = e.at_giver; of_node = refl;
-        no_ask = p.0 })
+    let n : e.taker.node ≡ x = ap (λ (v : Vertex). v.node) (same_Some e.taker f.vertex (sym e.at_taker ∙ f.stands)) ∙ f.of_node in (
+      e.giver.node,
+      subst (λ y. In e.giver.node (operands_of c (kind_at c y))) n p.2,
+      record {
+        vertex = e.giver;
+        stands = e.at_giver;
+        of_node = refl;
+        no_ask = p.0;
+      },
+    )
 
 -- and from each giver of an operand there is one
 pub operand-edge : (c : Code) (b d k x a : ℕ) → Firer c b k x → Giver c b d a → In a (operands_of c (kind_at c x)) → In (d, k)
     (edges_among c (vertices_in c b))
 operand-edge c b d k x a f e h = fed-in c (vertices_in c b) d k (record {
-      giver = e.vertex;
-      taker = f.vertex;
-      at_giver = e.stands;
-      at_taker = f.stands;
-      fed = parts-feed c e.vertex f.vertex (e.no_ask, no_answer (at-shape c b k f.vertex f.stands).0, operand);
-    })
+  giver = e.vertex;
+  taker = f.vertex;
+  at_giver = e.stands;
+  at_taker = f.stands;
+  fed = parts-feed c e.vertex f.vertex (e.no_ask, no_answer (at-shape c b k f.vertex f.stands).0, operand);
+})
   where
     no_answer : Shape f.vertex.node (kind_at c f.vertex.node) f.vertex → is_answer f.vertex.half ≡ false
     no_answer (inl (s, inl p)) = sym (ap (λ (w : Vertex). is_answer w.half) p)
@@ -363,7 +370,7 @@ no-edge c b d k v h i m =
     let p = feeds-parts c e.giver e.taker e.fed in
     let n : e.taker ≡ v = same_Some e.taker v (sym e.at_taker ∙ h) in
     go e.giver.node (at-shape c b k v h).0 (subst (λ (w : Vertex). is_answer w.half ≡ false) n p.1)
-        (subst (λ (w : Vertex). In e.giver.node (operands_of c (kind_at c w.node))) n p.2)
+    (subst (λ (w : Vertex). In e.giver.node (operands_of c (kind_at c w.node))) n p.2)
   where
     go : (y : ℕ) → Shape v.node (kind_at c v.node) v → is_answer v.half ≡ false → In y (operands_of c (kind_at c v.node)) → ⊥
     go y (inl (s, inl p)) a o = true≢false (sym i ∙ sym (ap (λ (w : Vertex). w.inlet) p))

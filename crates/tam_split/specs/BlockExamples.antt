@@ -38,11 +38,16 @@ cyclic_both = (refl, refl)
 
 -- a fetch that feeds its own index: there is no edge from an ask to its answer
 abbrev pub fed_by_itself : Code
-fed_by_itself = record { name = main_name; nodes = deep 0 (Const 1) ∷ deep 1 (Alloc 0) ∷ deep 0 (Fetch 1 3) ∷ deep 0 (Operate Add 2 2) ∷ deep 0 (Give 0 2) ∷ []; owners = None ∷ [] }
+fed_by_itself = record {
+  name = main_name;
+  nodes = deep 0 (Const 1) ∷ deep 1 (Alloc 0) ∷ deep 0 (Fetch 1 3) ∷ deep 0 (Operate Add 2 2) ∷ deep 0 (Give 0 2) ∷ [];
+  owners = None ∷ [];
+}
 
 fed_by_itself_both : (has_no_cycle (block_graph fed_by_itself 0).edges ≡ true) × (on_cycle fed_by_itself 0 ≡ [])
 fed_by_itself_both = (refl, refl)
 
 -- the vertices are counted as they stand
-vertices_counted : (number_of_vertices back_main 0 ≡ length (block_graph back_main 0).vertices) × (map (number_of_vertices loop_main) (0 ∷ 1 ∷ 2 ∷ []) ≡ map (λ b. length (block_graph loop_main b).vertices) (0 ∷ 1 ∷ 2 ∷ []))
+vertices_counted : (number_of_vertices back_main 0 ≡ length (block_graph back_main 0).vertices)
+    × (map (number_of_vertices loop_main) (0 ∷ 1 ∷ 2 ∷ []) ≡ map (λ b. length (block_graph loop_main b).vertices) (0 ∷ 1 ∷ 2 ∷ []))
 vertices_counted = (refl, refl)

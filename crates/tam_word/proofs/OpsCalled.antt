@@ -74,3 +74,10 @@ called-exactly name result is op = (
   λ some. op_name-called name OPS op (sym is ∙ some),
   λ named. is ∙ (ap (λ (n : List ℕ). called n OPS) named ∙ called-op_name op),
 )
+
+-- an operator of that name is the one, where no operator before it is
+pub this_op : (name text : List ℕ) (i : ℕ) (d : Op) → i < length OPS → text ≡ op_name (get_or OPS i d) → bytes_eq name text ≡ true
+    → called name (drop i OPS) ≡ called name OPS → (op : Op) → (Some (get_or OPS i d) ≡ Some op) ↔ (name ≡ op_name op)
+this_op name text i d lt is passes h =
+    let here = called-here name OPS i d lt (ap (bytes_eq name) (sym is) ∙ passes) in
+    called-exactly name (Some (get_or OPS i d)) (sym here ∙ h)

@@ -1,5 +1,6 @@
 -- Words: what the operators mean, over whole numbers modulo 2 to the power 32, and a word's signed decimal.
-use Rattle.std.specs.Prelude.{ℕ, ◌+◌, ◌-◌, ◌*◌, ◌/◌, ◌%◌, ◌^◌, Bool, nat_lt, ◌==◌, if◌then◌else◌, bit_and, bit_or, bit_xor, int_lt, int_div, int_rem, List, ◌∷◌, decimal}
+use Rattle.std.specs.Prelude.{ℕ, ◌+◌, ◌-◌, ◌*◌, ◌/◌, ◌%◌, ◌^◌, Bool, nat_lt, ◌==◌, if◌then◌else◌, bit_and, bit_or, bit_xor, int_lt, int_div, int_rem, List}
+use Rattle.std.specs.Prelude.{◌∷◌, decimal}
 use Rattle.std.proofs.Common.{to_z, of_z, w32}
 use Rattle.tam_word.specs.declared.op.Op.{Op}
 use Rattle.tam_word.specs.declared.op.Op.TheVariants.{Add, Sub, Mul, Div, Divu, Rem, Remu, And, Or, Xor, Sll, Srl, Sra, Slt, Sltu, Eq}

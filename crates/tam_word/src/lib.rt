@@ -10,5 +10,5 @@ mod print;
 mod read;
 
 pub use op::{OPS, Op, apply, op_name, op_of};
-pub use print::print_word;
+pub use print::{print_number, print_word};
 pub use read::{read_number, read_word};

@@ -1,5 +1,5 @@
 // A word in signed decimal.
-ghost use Rattle.std.specs.Prelude.{◌≡◌, ◌≤◌, length, take};
+ghost use Rattle.std.specs.Prelude.{◌≡◌, ◌≤◌, length, take, decimal};
 ghost use Rattle.tam_word.specs.Words.{signed_text};
 
 use itoa::Buffer;
@@ -14,6 +14,21 @@ pub fn print_word(w: u32, to: &mut [u8; 11]) -> usize
 {
     let mut buffer = Buffer::new();
     let text = buffer.format(w.cast_signed()).as_bytes();
+    let len = text.len();
+    to[..len].copy_from_slice(text);
+    len
+}
+
+/// Writes a number in plain decimal at the front, and answers how many bytes that took. What stands behind them is of no meaning.
+///
+/// docs/FORMATS.md, "Words".
+pub fn print_number(n: u32, to: &mut [u8; 10]) -> usize
+    ensures text { take result to.new ≡ decimal n }
+    ensures len { result ≡ length (decimal n) }
+    ensures in_range { result ≤ 10 }
+{
+    let mut buffer = Buffer::new();
+    let text = buffer.format(n).as_bytes();
     let len = text.len();
     to[..len].copy_from_slice(text);
     len

@@ -1,4 +1,4 @@
-use Rattle.std.proofs.Common.{◌≡◌, sym, ◌++◌, take, drop, length, subst, arith}
+use Rattle.std.proofs.Common.{sym, subst}
 use Rattle.tam_edge.specs.Faults.{CountsRead}
 use Rattle.tam_edge.specs.HostFiles.{faults_of}
 use Rattle.tam_edge.proofs.MemFilesLemmas.{lent_back}
@@ -6,5 +6,8 @@ use Rattle.tam_edge.proofs.host_files.HostFilesFiles.read.Goals as goal
 
 pub returns-clause-counted : goal.returns-clause-counted
 returns-clause-counted g c =
-    let back = lent_back c.deref_mut.result.now c.read_at.new.opened c.place_of.new.opened.len c.read_at.auto.opened (sym c.deref_mut.ensures.len) in
-    rw (← c.self.view_is, ← c.in_ok-i.ensures.kept c.args.name.now, ← c.deref_mut.ensures.value) (subst (λ l. CountsRead (faults_of c.deref_mut.result.now c.args.name.now) (faults_of l c.args.name.now) c.read_at.result) (sym back) c.read_at.ensures.counted)
+    let back = lent_back c.place_of.new.opened _ c.read_at.new.opened c.deref_mut.ensures.value c.read_at.auto.opened c.deref_mut.ensures.len in
+    let counted : CountsRead (faults_of c.place_of.new.opened.items c.args.name.now) (faults_of c.read_at.new.opened c.args.name.now) c.read_at.result =
+    rw c.deref_mut.ensures.value at c.read_at.ensures.counted in
+    rw (← c.self.view_is, ← c.in_ok-i.ensures.kept c.args.name.now)
+    (subst (λ l. CountsRead (faults_of c.place_of.new.opened.items c.args.name.now) (faults_of l c.args.name.now) c.read_at.result) (sym back) counted)

@@ -5,8 +5,10 @@ use Rattle.tam_edge.proofs.mem_sink.MemSinkSink.put.Goals.{then-count-eq0-via-th
 pub returns-then-count-eq0-clause-exact : goal.returns-then-count-eq0-clause-exact
 returns-then-count-eq0-clause-exact c = rw (← c.self.view_is) (record {
   to_fail = elim c.then-count-eq0.branch [
-    then-count-eq0-via-then-count-eq0 w ↦ inr (omega (arith, c.requires, w.if-count-eq0.true, c.min-count.ensures, c.len.ensures, c.self.invariant.0))
-  | then-count-eq0-via-else-count-eq0+then-is_to_fail w ↦ inl (rw (← c.next_count-self-inside.ensures.value, ← w.deref.ensures.value) (w.is_to_fail.ensures.0 w.if-is_to_fail.true))
+    | then-count-eq0-via-then-count-eq0 w ↦
+        inr (omega (arith, c.requires, w.if-count-eq0.true, c.min-count.ensures, c.len.ensures, c.self.invariant.0))
+    | then-count-eq0-via-else-count-eq0+then-is_to_fail w ↦
+        inl (rw (← c.next_count-self-inside.ensures.value, ← w.deref.ensures.value) (w.is_to_fail.ensures.0 w.if-is_to_fail.true))
   ];
   now_is = rw (c.next_count-self-inside.ensures.value, c.next_count-self-inside-then-count-eq0.ensures.value) refl;
 })

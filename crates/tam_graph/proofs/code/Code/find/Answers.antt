@@ -1,7 +1,12 @@
-use Rattle.std.proofs.Common.{◌≡◌, ◌∙◌, Some, ap}
+use Rattle.std.proofs.Common.{◌∙◌, Some, ap}
 use Rattle.tam_graph.specs.KeptCodes.{kept_code}
-use Rattle.tam_graph.proofs.NodeNames.{one-node}
+use Rattle.tam_graph.proofs.NodeNames.{one-node, named-within}
 use Rattle.tam_graph.proofs.code.Code.find.Goals as goal
+
+pub returns-clause-found : goal.returns-clause-found
+returns-clause-found c =
+    let found = rw c.deref.ensures.value at c.in_ok-x.ensures.found in
+    rw (← c.self.view_is, c.from.ensures) (named-within c.self.inside.nodes.items c.in_ok-x.x c.args.name.now found, found)
 
 pub returns-clause-only : goal.returns-clause-only
 returns-clause-only c =

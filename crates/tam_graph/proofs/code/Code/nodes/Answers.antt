@@ -1,4 +1,3 @@
-use Rattle.std.proofs.Common.{length}
 use Rattle.tam_graph.proofs.FewNodes.{few-nodes}
 use Rattle.tam_graph.proofs.code.Code.nodes.Goals as goal
 

@@ -1,4 +1,4 @@
-use Rattle.std.proofs.Common.{◌≡◌, ◌<◌, ◌∙◌, Some, length, ap, sym, arith}
+use Rattle.std.proofs.Common.{◌<◌, ◌∙◌, Some, length, ap, arith}
 use Rattle.tam_graph.proofs.CodeNames.{first-called, only-called}
 use Rattle.tam_graph.proofs.graph.Graph.find.Goals as goal
 
@@ -18,4 +18,6 @@ pub returns-else-code-len-clause-only : goal.returns-else-code-len-clause-only
 returns-else-code-len-clause-only c =
     let is = rw c.deref.ensures.value at c.place_called-code.ensures.value in
     let long = rw c.deref.ensures.value at c.deref.ensures.len in
-    rw (← c.self.view_is) (λ k l e. absurd (let p = is ∙ only-called c.self.inside.codes.items c.args.name.now c.self.invariant.codes_differ k l e in omega (arith, long, c.len.ensures, c.if-code-len.false, p, l)))
+    rw (← c.self.view_is) (λ k l e. absurd (
+    let p = is ∙ only-called c.self.inside.codes.items c.args.name.now c.self.invariant.codes_differ k l e in
+    omega (arith, long, c.len.ensures, c.if-code-len.false, p, l)))

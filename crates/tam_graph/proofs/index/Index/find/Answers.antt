@@ -1,10 +1,9 @@
-use Rattle.std.proofs.Common.{◌≡◌, ◌≢◌, ◌<◌, ℕ, List, Option, Some, None, length, slice_get, slice_index_or, refl, sym, ap, ◌∙◌, true, false, true≢false, arith}
+use Rattle.std.proofs.Common.{◌≡◌, ◌<◌, ℕ, List, Option, Some, None, length, slice_get, slice_index_or, refl, sym, ap, ◌∙◌, true≢false, arith}
 use Rattle.std.proofs.lemmas.Option.{slice_get_read, slice_get_within, get_or_from_slice_get}
 use Rattle.tam_graph.specs.declared.node.Node.{Node}
 use Rattle.tam_graph.specs.declared.index.Index.{Index}
-use Rattle.tam_graph.specs.Finding.{is_called, name_of}
 use Rattle.tam_graph.specs.Hashes.{hash_of, last_below, IsIndexOf}
-use Rattle.tam_graph.proofs.LastNodes.{IsNext, next-first, next-hashed, next-within, next-before, next-none, way-before}
+use Rattle.tam_graph.proofs.LastNodes.{IsNext, next-hashed, next-within, next-before, next-none, way-before}
 use Rattle.tam_graph.proofs.NodeNames.{the-name, passes-name}
 use Rattle.tam_graph.proofs.index.Index.find.Goals as goal
 
@@ -40,16 +39,19 @@ bounds-self-from c =
 
 pub loop-next-smaller : goal.loop-next-smaller
 loop-next-smaller c =
-    rw c.in-Some.is (way-before c.args.nodes.now (hash_of c.args.name.now) c.in-Some.x _
-    (reads-before c.args.nodes.now c.args.self.now c.args.name.now c.loop-next.next c.in-Some.x c.from-in-Some.result c.requires.index c.in-Some.is c.loop-next.invariant c.from-in-Some.ensures))
+    let reads = reads-before c.args.nodes.now c.args.self.now c.args.name.now c.loop-next.next c.in-Some.x c.from-in-Some.result c.requires.index
+    c.in-Some.is c.loop-next.invariant c.from-in-Some.ensures in
+    rw c.in-Some.is (way-before c.args.nodes.now (hash_of c.args.name.now) c.in-Some.x _ reads)
 
 pub loop-next-preserved : goal.loop-next-preserved
 loop-next-preserved c =
     let l = rw (← c.from.ensures) at (next-within c.args.nodes.now c.args.name.now c.loop-next.next c.in-Some.x c.in-Some.is c.loop-next.invariant) in
     let there = passes c.args.nodes.now c.args.name.now c.in-Some.x c.from.result c.index-nodes-from.result c.from.ensures l c.index-nodes-from.is in
+    let reads = reads-before c.args.nodes.now c.args.self.now c.args.name.now c.loop-next.next c.in-Some.x c.from-in-Some.result c.requires.index
+    c.in-Some.is c.loop-next.invariant c.from-in-Some.ensures in
+    let fails = sym c.is_called.ensures.value ∙ c.if-is_called.false in
     next-before c.args.nodes.now c.args.name.now c.loop-next.next c.in-Some.x _ c.in-Some.is c.loop-next.invariant
-    (λ k. true≢false (sym (passes-name c.args.name.now c.index-nodes-from.result.name (rw there at k)) ∙ (sym c.is_called.ensures.value ∙ c.if-is_called.false)))
-    (reads-before c.args.nodes.now c.args.self.now c.args.name.now c.loop-next.next c.in-Some.x c.from-in-Some.result c.requires.index c.in-Some.is c.loop-next.invariant c.from-in-Some.ensures)
+    (λ k. true≢false (sym (passes-name c.args.name.now c.index-nodes-from.result.name (rw there at k)) ∙ fails)) reads
 
 pub returns-clause-absent : goal.returns-clause-absent
 returns-clause-absent c = next-none c.args.nodes.now c.args.name.now c.loop-next.next c.in_default.is c.loop-next.invariant

@@ -1,0 +1,46 @@
+//! Runs a dataflow graph: the program around the top call.
+//!
+//! Over the edge, the reader of what is built, and the runs of accepted graphs.
+//! Read `specs/Headline.antt` first: what the top call makes sure of. Then `src/top.rt`.
+#![tactic(auto)]
+
+mod job;
+mod say;
+mod status;
+#[cfg(test)]
+mod tests;
+mod top;
+mod usage_cause;
+mod words;
+
+use std::env;
+use std::process::ExitCode;
+use tam_edge::{HostFiles, HostSink};
+use top::tam;
+
+// The system doesn't give the words as text.
+const NO_WORDS: u8 = 13;
+
+const NO_MEMORY: u8 = 11;
+
+fn main(rt: HostRuntime) -> ExitCode {
+    let alloc = rt.alloc();
+    let Ok(args) = env::args(&rt) else {
+        return ExitCode::from(NO_WORDS);
+    };
+    let mut words = Vec::new(alloc);
+    for word in args.skip(1) {
+        if words.push(word).is_err() {
+            return ExitCode::from(NO_MEMORY);
+        }
+    }
+    let Ok(for_files) = rt.clone() else {
+        return ExitCode::from(NO_MEMORY);
+    };
+    let Ok(for_sink) = rt.clone() else {
+        return ExitCode::from(NO_MEMORY);
+    };
+    let mut files = HostFiles::new(for_files, alloc);
+    let mut out = HostSink::new(for_sink);
+    ExitCode::from(tam(alloc, &words, &mut files, &mut out).code)
+}

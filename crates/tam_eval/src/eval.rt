@@ -1,0 +1,189 @@
+// A run of a graph, event by event.
+ghost use Rattle.std.specs.Prelude.{ℕ, List, ◌≡◌, ◌+◌, ◌<◌, ◌≤◌, ◌^◌, ◌++◌, None, length, zip, flat_map, OnOk, IfOk, option_to_list};
+ghost use Rattle.tam_word.specs.Lists.{below};
+ghost use Rattle.tam_istr.specs.Cells.{cells_used};
+ghost use Rattle.tam_msgs.specs.Messages.{AreLimits};
+ghost use Rattle.tam_graph.specs.Graphs.{AreArguments};
+ghost use Rattle.tam_flow.specs.Worlds.{argument_message};
+ghost use Rattle.tam_eval.specs.Machines.{state_of, IsWithinLimits};
+ghost use Rattle.tam_eval.specs.Events.{opening_state, IsEvent};
+
+use crate::activation::{Activation, OUTSIDE};
+use crate::advancing::advance;
+use crate::delivering::ready_all;
+use crate::finding::{Sought, find_node};
+use crate::machine::Machine;
+use crate::program::Program;
+use std::alloc::Global;
+use std::collections::VecDeque;
+use std::marker::Model;
+use tam_edge::NoMemory;
+use tam_graph::Accepted;
+use tam_istr::Cells;
+use tam_msgs::{Counts, Limits, Message, Order, Pending, Step, Stop};
+
+/// A run of an accepted graph. The caller keeps the order list and the results printed.
+#[derive(Drop)]
+pub struct Eval<'g> {
+    program: Program<'g>,
+    machine: Machine,
+    limits: Limits,
+    stopped: Option<Stop>,
+}
+
+impl<'g> Model for Eval<'g> {
+    ghost use Rattle.tam_eval.specs.Events.{EvalRun};
+    ghost use Rattle.tam_eval.specs.Machines.{state_of};
+
+    ghost Value = { EvalRun };
+
+    ghost use Rattle.tam_msgs.specs.Messages.{AreLimits};
+    ghost use Rattle.tam_eval.specs.Machines.{IsWithinLimits};
+
+    ghost view = { λ e. record { graph = e.program; limits = e.limits; state = state_of e.machine; stopped = e.stopped } };
+
+    ghost invariant = { λ e. AreLimits e.limits × IsWithinLimits e.machine e.limits };
+}
+
+impl<'g> Eval<'g> {
+    /// Begins a run: the root has begun, and the arguments are pending.
+    pub fn new(
+        alloc: Global,
+        g: &'g Accepted,
+        args: &[u32],
+        limits: Limits,
+    ) -> Result<Eval<'g>, NoMemory>
+        requires args { AreArguments g.now args.now }
+        requires limits { AreLimits limits }
+        ensures value { IfOk result (λ run. run ≡ record { graph = g.now; limits = limits; state = opening_state g.now args.now; stopped = None }) }
+    {
+        let main = g.main();
+        let _params = g.params(main);
+        let program = Program::new(alloc, g.graph())?;
+        let machine = opening(alloc, &program, main, args, &limits)?;
+        Ok(Eval {
+            program,
+            machine,
+            limits,
+            stopped: None,
+        })
+    }
+
+    /// Makes one event: the firing of one vertex, or the delivery of one message. A run that was stopped stays so.
+    pub fn event(&mut self, order: &mut Order) -> Result<Step, Stop>
+        ensures event { IsEvent self.old self.new order.old order.new result self.old.stopped }
+        ensures graph { self.new.graph ≡ self.old.graph }
+        ensures limits { self.new.limits ≡ self.old.limits }
+    {
+        if let Some(stop) = self.stopped {
+            return Err(stop);
+        }
+        match advance(&self.program, &mut self.machine, &self.limits, order) {
+            Ok(step) => Ok(step),
+            Err(stop) => {
+                self.stopped = Some(stop);
+                Err(stop)
+            }
+        }
+    }
+
+    /// What the run has counted. Takes no memory.
+    pub fn counts(&self) -> Counts
+        ensures value { result ≡ record {
+          events = self.now.state.events;
+          activations = length self.now.state.world.activations;
+          cells =
+              cells_used self.now.state.world.arrays;
+        } }
+    {
+        Counts {
+            events: self.machine.events,
+            activations: self.machine.activations.len() as u32,
+            cells: self.machine.cells.used(),
+        }
+    }
+}
+
+// The root has begun, and the arguments are pending.
+fn opening(
+    alloc: Global,
+    program: &Program<'_>,
+    main: u32,
+    args: &[u32],
+    limits: &Limits,
+) -> Result<Machine, NoMemory>
+    requires main { main ≡ program.now.main }
+    requires args { length args.now ≤ 64 }
+    requires limits { AreLimits limits.now }
+    ensures value { IfOk result (λ machine. state_of machine ≡ opening_state program.now args.now) }
+    ensures within { IfOk result (λ machine. IsWithinLimits machine limits.now) }
+{
+    let mut activations = Vec::new(alloc);
+    let root = Activation::begun(alloc, main, OUTSIDE, 0)?;
+    if activations.push(root).is_err() {
+        return Err(NoMemory);
+    }
+    let mut ready = VecDeque::new(alloc);
+    ready_all(&mut ready, 0, program.starters(main))?;
+    let mut pending = Pending::new(alloc);
+    send_arguments(program, main, args, &mut pending)?;
+    Ok(Machine {
+        alloc,
+        activations,
+        cells: Cells::new(alloc, limits.cells),
+        makers: Vec::new(alloc),
+        ready,
+        pending,
+        events: 0,
+    })
+}
+
+// The message of an argument of the root.
+fn argument_message(program: &Program<'_>, main: u32, place: u32, word: u32) -> Option<Message>
+    requires main { main ≡ program.now.main }
+    ensures { option_to_list result ≡ argument_message program.now (place, word) }
+{
+    match find_node(program, main, Sought::Param { place }) {
+        Some(inlet) => Some(Message::Word {
+            frame: 0,
+            inlet,
+            word,
+        }),
+        None => None,
+    }
+}
+
+// The message, if there is one, is sent.
+fn send_some(pending: &mut Pending, message: Option<Message>) -> Result<(), NoMemory>
+    ensures { OnOk result (pending.new.messages ≡ pending.old.messages ++ option_to_list message) }
+{
+    match message {
+        Some(message) => {
+            if pending.send(message).is_err() {
+                return Err(NoMemory);
+            }
+            Ok(())
+        }
+        None => Ok(()),
+    }
+}
+
+// One message per argument, in the order of places.
+fn send_arguments(
+    program: &Program<'_>,
+    main: u32,
+    args: &[u32],
+    pending: &mut Pending,
+) -> Result<(), NoMemory>
+    requires main { main ≡ program.now.main }
+    requires args { length args.now ≤ 64 }
+    ensures { OnOk result (pending.new.messages ≡ pending.old.messages ++ flat_map (argument_message program.now) (zip (below (length args.now)) args.now)) }
+{
+    for (place, word) in args.iter().enumerate() {
+        send_some(
+            pending,
+            argument_message(program, main, place as u32, *word),
+        )?;
+    }
+    Ok(())
+}

@@ -1,0 +1,13 @@
+pub mod Totals
+pub mod RootWords
+pub mod BuiltCodes
+pub mod RootPlaces
+pub mod RootStates
+pub mod Weights
+pub mod Keeping
+pub mod RootSteps
+pub mod RootOpening
+pub mod RootRest
+pub mod RootRules
+pub mod FirstLaw
+pub mod FirstExamples

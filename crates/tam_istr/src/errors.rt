@@ -1,0 +1,26 @@
+// Why arrays and their cells refuse.
+
+/// Why no array was made.
+#[derive(Clone, Copy, Debug, PartialEq, Eq)]
+pub enum AllocError {
+    /// The cells in use and those of the array are more than the limit.
+    Full { used: u32, len: u32 },
+    NoMemory,
+}
+
+/// Why a cell was not read.
+#[derive(Clone, Copy, Debug, PartialEq, Eq)]
+pub enum FetchError {
+    NoArray,
+    OutOfRange { len: u32 },
+    NoMemory,
+}
+
+/// Why a cell was not written.
+#[derive(Clone, Copy, Debug, PartialEq, Eq)]
+pub enum StoreError {
+    NoArray,
+    OutOfRange { len: u32 },
+    /// The cell has a word already, from this site.
+    Twice { first: u32 },
+}

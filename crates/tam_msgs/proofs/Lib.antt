@@ -1,0 +1,2 @@
+pub mod OrderPieces
+pub mod Taking

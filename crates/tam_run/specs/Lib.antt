@@ -1,0 +1,3 @@
+pub mod LineLists
+pub mod Ends
+pub mod Writing

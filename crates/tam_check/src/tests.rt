@@ -148,3 +148,20 @@ fn the_first_fault_is_told(rt: HostRuntime) -> Result<(), Fail> {
     );
     Ok(())
 }
+
+#[test]
+fn a_graph_without_main_is_refused(rt: HostRuntime) -> Result<(), Fail> {
+    let error = match check(rt.alloc(), Graph::of(Vec::new(rt.alloc()))) {
+        Ok(_) => None,
+        Err((_, error)) => Some(error),
+    };
+    let cause = CheckCause::NoMain;
+    assert_eq!(rt;
+        error,
+        Some(CheckError::At {
+            place: Place::File,
+            cause
+        })
+    );
+    Ok(())
+}

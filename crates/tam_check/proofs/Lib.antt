@@ -1,0 +1,15 @@
+mod Scanning
+mod InterfaceTests
+mod BlockEdges
+mod Marking
+mod Rising
+mod CycleTable
+mod Firsts
+mod CycleLast
+mod Keys
+mod Tabling
+mod FewBlocks
+mod Sizing
+mod Far
+mod Borders
+mod PlacesLacking

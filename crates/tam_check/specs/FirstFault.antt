@@ -1,5 +1,5 @@
 -- The first fault of a graph, in file order.
--- The rule in words: docs/FORMATS.md, "What is accepted".
+-- The rule in words: docs/FORMATS.md, "Which graphs are accepted".
 use Rattle.std.specs.Prelude.{ℕ, ◌≡◌, true, false, nat_lt, List, [], ◌∷◌, Option, Some, None, length, map, flat_map}
 use Rattle.tam_graph.specs.declared.place.Place.{Place}
 use Rattle.tam_graph.specs.declared.place.Place.TheVariants.{File, Node}

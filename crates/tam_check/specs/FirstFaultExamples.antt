@@ -1,5 +1,5 @@
 -- What is told of small graphs, each worked by hand from the rules.
--- The rule in words: docs/FORMATS.md, "What is accepted".
+-- The rule in words: docs/FORMATS.md, "Which graphs are accepted".
 use Rattle.std.specs.Prelude.{ℕ, ◌≡◌, refl, List, [], ◌∷◌, Some, None, map, codes}
 use Rattle.tam_word.specs.declared.op.Op.TheVariants.{Add}
 use Rattle.tam_graph.specs.declared.kind.Kind.{Kind}

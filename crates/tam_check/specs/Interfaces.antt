@@ -1,5 +1,5 @@
 -- Interfaces: which nodes hand values over at a border, at which places and of which depths.
--- The rule in words: docs/FORMATS.md, "What is accepted".
+-- The rule in words: docs/FORMATS.md, "Which graphs are accepted".
 use Rattle.std.specs.Prelude.{ℕ, Bool, ◌&&◌, ◌||◌, not, ◌==◌, Option, Some, None}
 use Rattle.tam_word.specs.Lists.{below, any_of, all_of}
 use Rattle.tam_graph.specs.declared.kind.Kind.{Kind}

@@ -1,5 +1,5 @@
 -- What feeds a node within its block, ranks that rise along it, and what a node reaches by it.
--- The rule in words: docs/FORMATS.md, "What is accepted".
+-- The rule in words: docs/FORMATS.md, "Which graphs are accepted".
 use Rattle.std.specs.Prelude.{ℕ, zero, suc, ◌≡◌, ◌<◌, ◌+◌, Bool, true, false, not, ◌&&◌, ◌||◌, ◌==◌, nat_lt, List, [], ◌∷◌, Option, Some, None}
 use Rattle.std.specs.Prelude.{slice_get, length}
 use Rattle.tam_word.specs.Lists.{any_of, all_of}

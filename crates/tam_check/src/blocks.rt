@@ -10,7 +10,7 @@ use tam_graph::{Code, Kind};
 
 /// Whether a node stands in a wrong block, or its line names a node of another block.
 ///
-/// docs/FORMATS.md, "What is accepted".
+/// docs/FORMATS.md, "Which graphs are accepted".
 pub fn is_wrong_block(code: &Code, x: u32) -> bool
     ensures value { result ≡ is_wrong_block code.now x }
 {

@@ -28,7 +28,7 @@ pub enum CheckError {
 
 /// Accepts a graph without a fault, or gives it back with its first fault.
 ///
-/// docs/FORMATS.md, "What is accepted".
+/// docs/FORMATS.md, "Which graphs are accepted".
 pub fn check(alloc: Global, graph: Graph) -> Result<Accepted, (Graph, CheckError)>
     ensures value { IfOk result (λ accepted. accepted ≡ graph) }
     ensures accepted { IfOk result (λ accepted. IsAccepted accepted) }

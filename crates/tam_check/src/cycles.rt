@@ -11,7 +11,7 @@ use tam_graph::Code;
 
 /// For each block the least node that reaches itself; an empty list where there is none in any.
 ///
-/// docs/FORMATS.md, "What is accepted".
+/// docs/FORMATS.md, "Which graphs are accepted".
 pub fn cycles(alloc: Global, code: &Code) -> Result<Vec<Option<u32>>, AllocError>
     ensures value { IfOk result (λ cycles. AreCycles code.now cycles.items) }
 {

@@ -12,7 +12,7 @@ use tam_graph::{Code, Kind};
 
 /// Whether a node and what it names have the depths that its line asks for.
 ///
-/// docs/FORMATS.md, "What is accepted".
+/// docs/FORMATS.md, "Which graphs are accepted".
 pub fn has_right_depth(graph: &GraphTables<'_>, tables: &CodeTables<'_>, x: u32, kind: Kind) -> bool
     ensures value { result ≡ has_right_depth graph.now.graph.now tables.now.code.now x kind }
 {
@@ -48,7 +48,7 @@ pub fn has_right_depth(graph: &GraphTables<'_>, tables: &CodeTables<'_>, x: u32,
 
 /// Whether a param or a result is an array, as one of `main` can't be.
 ///
-/// docs/FORMATS.md, "What is accepted".
+/// docs/FORMATS.md, "Which graphs are accepted".
 pub fn is_main_type(code: &Code, x: u32, kind: Kind) -> bool
     ensures value { result ≡ is_main_type code.now x kind }
 {

@@ -7,7 +7,7 @@ use tam_graph::Kind;
 
 /// One side of a border. A call and a cond are nodes, by their numbers; a branch is a block.
 ///
-/// docs/FORMATS.md, "What is accepted".
+/// docs/FORMATS.md, "Which graphs are accepted".
 #[derive(Clone, Copy, Debug, PartialEq, Eq)]
 pub enum Interface {
     Params,

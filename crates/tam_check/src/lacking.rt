@@ -14,7 +14,7 @@ const PLACES: u32 = 64;
 
 /// Whether the interface of a call or of a cond lacks a place that the other side has.
 ///
-/// docs/FORMATS.md, "What is accepted".
+/// docs/FORMATS.md, "Which graphs are accepted".
 pub fn is_place_missing(
     graph: &GraphTables<'_>,
     tables: &CodeTables<'_>,

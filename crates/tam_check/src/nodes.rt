@@ -21,6 +21,8 @@ pub fn block_count(code: &Code) -> usize
     ensures few { result ≤ 2049 }
     ensures of_text { IsCode code.now }
 {
+    // What comes with the nodes says that the code is one of a text.
+    let _ = code.nodes();
     code.owners().len()
 }
 

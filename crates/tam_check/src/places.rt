@@ -13,7 +13,7 @@ use tam_graph::{Code, Graph, Kind};
 
 /// Whether an earlier node has the same place of the same interface; the table tells of the earlier nodes.
 ///
-/// docs/FORMATS.md, "What is accepted".
+/// docs/FORMATS.md, "Which graphs are accepted".
 pub fn is_place_twice(code: &Code, earlier: &Table, x: u32) -> bool
     requires in_range { x < length code.now.nodes }
     requires earlier { IsTable code.now x (8 * (length code.now.nodes + length code.now.owners)) earlier.now.rows.items earlier.now.seen.items }
@@ -27,7 +27,7 @@ pub fn is_place_twice(code: &Code, earlier: &Table, x: u32) -> bool
 
 /// Whether a place isn't below the size of the interface.
 ///
-/// docs/FORMATS.md, "What is accepted".
+/// docs/FORMATS.md, "Which graphs are accepted".
 pub fn is_place_range(graph: &Graph, tables: &CodeTables<'_>, x: u32, kind: Kind) -> bool
     ensures value { result ≡ is_place_range graph.now tables.now.code.now x kind }
 {

@@ -9,7 +9,7 @@ use std::marker::Model;
 
 /// A graph that no rule refuses.
 ///
-/// docs/FORMATS.md, "What is accepted".
+/// docs/FORMATS.md, "Which graphs are accepted".
 #[derive(Debug, Drop)]
 pub struct Accepted {
     graph: Graph,

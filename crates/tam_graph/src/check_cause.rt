@@ -2,7 +2,7 @@
 
 /// Which rule a graph breaks.
 ///
-/// docs/FORMATS.md, "What is accepted".
+/// docs/FORMATS.md, "Which graphs are accepted".
 #[derive(Clone, Copy, Debug, PartialEq, Eq)]
 pub enum CheckCause {
     /// No code is named `main`.

@@ -66,8 +66,10 @@ pub fn run_file<F: Files, K: Sink>(
     files: &mut F,
     out: &mut K,
 ) -> Status
-    ensures done { IsDone (Job name.now args.now) (F.left files.old name.now) result.code (K.taken out.old) (K.taken out.new) (K.faults out.old) (K.faults out.new) }
-    ensures files { KeepsFiles (Job name.now args.now) result.code (F.left files.old) (F.left files.new) (F.faults files.old) (F.faults files.new) }
+    ensures done { IsDone (Job name.now args.now) (F.left files.old name.now) result.code
+        (K.taken out.old) (K.taken out.new) (K.faults out.old) (K.faults out.new) }
+    ensures files { KeepsFiles (Job name.now args.now) result.code (F.left files.old) (F.left files.new)
+        (F.faults files.old) (F.faults files.new) }
 {
     match read_whole(alloc, files, name, MOST_BYTES) {
         Ok(bytes) => run_bytes(alloc, &bytes, args, out),

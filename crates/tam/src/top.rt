@@ -23,7 +23,8 @@ pub fn tam<F: Files, K: Sink>(alloc: Global, words: &[String], files: &mut F, ou
         → IsRightRun g args result.code (K.taken out.old) (K.taken out.new) }
 
     // By what the words ask for and what is left of the file, the status that is answered and the text that was written, or a front of it.
-    ensures done { IsDone (ask_of words.now) (F.left files.old (name_of (ask_of words.now))) result.code (K.taken out.old) (K.taken out.new) (K.faults out.old) (K.faults out.new) }
+    ensures done { IsDone (ask_of words.now) (F.left files.old (name_of (ask_of words.now))) result.code
+        (K.taken out.old) (K.taken out.new) (K.faults out.old) (K.faults out.new) }
 
     // What isn't asked for stays as it was, and a read fault is told by the count of the file that is asked for.
     ensures files { KeepsFiles (ask_of words.now) result.code (F.left files.old) (F.left files.new) (F.faults files.old) (F.faults files.new) }
@@ -54,7 +55,8 @@ fn run_option<F: Files, K: Sink>(
     files: &mut F,
     out: &mut K,
 ) -> Status
-    ensures does { Does (asked_with mode.now name.now (list_of option.now)) result.code (F.left files.old) (F.left files.new) (F.faults files.old) (F.faults files.new) (K.taken out.old) (K.taken out.new) (K.faults out.old) (K.faults out.new) }
+    ensures does { Does (asked_with mode.now name.now (list_of option.now)) result.code (F.left files.old) (F.left files.new)
+        (F.faults files.old) (F.faults files.new) (K.taken out.old) (K.taken out.new) (K.faults out.old) (K.faults out.new) }
 {
     match list_of(option.as_bytes()) {
         Some(list) => run_mode(alloc, mode, name, list, files, out),
@@ -71,7 +73,8 @@ fn run_mode<F: Files, K: Sink>(
     files: &mut F,
     out: &mut K,
 ) -> Status
-    ensures does { Does (asked_by mode.now name.now list.now) result.code (F.left files.old) (F.left files.new) (F.faults files.old) (F.faults files.new) (K.taken out.old) (K.taken out.new) (K.faults out.old) (K.faults out.new) }
+    ensures does { Does (asked_by mode.now name.now list.now) result.code (F.left files.old) (F.left files.new)
+        (F.faults files.old) (F.faults files.new) (K.taken out.old) (K.taken out.new) (K.faults out.old) (K.faults out.new) }
 {
     if !is_file_name(name) {
         return say(b"usage Words\n", 2, out);

@@ -59,6 +59,18 @@ module _ (g : Graph) (acc : IsAccepted g) (n : ℕ) (l : n < length g.codes) whe
             (where_so ((n == g.main) && is_main_type (code_of g n) x (kind_at (code_of g n) x)) Main_type
             ++ where_so (is_cycle (code_of g n) x) Cycle) w))))))
 
+    -- no earlier node stands for the same place
+    pub once-placed : is_place_twice (code_of g n) x ≡ false
+    once-placed = go (is_place_twice (code_of g n) x) refl
+      where
+        go : (b : Bool) → is_place_twice (code_of g n) x ≡ b → is_place_twice (code_of g n) x ≡ false
+        go false e = e
+        go true e =
+            let w = so-among (is_place_twice (code_of g n) x) Place_twice e in
+            absurd (no-fault-at x m Place_twice
+            (right-in Place_twice (where_so (is_wrong_block (code_of g n) x) Wrong_block) _
+            (left-in Place_twice (where_so (is_place_twice (code_of g n) x) Place_twice) _ w)))
+
     -- what `main` takes and gives are words
     pub right-main : n ≡ g.main → is_main_type (code_of g n) x (kind_at (code_of g n) x) ≡ false
     right-main same = go (is_main_type (code_of g n) x (kind_at (code_of g n) x)) refl

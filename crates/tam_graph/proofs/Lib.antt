@@ -10,6 +10,15 @@ pub mod Uncycled
 pub mod AcceptedFacts
 pub mod Depths
 pub mod Branches
-pub mod Lines
+pub mod NamedNodes
 pub mod BranchBlocks
 pub mod Padded
+pub mod SameBytes
+pub mod FewNodes
+pub mod FirstPlaces
+pub mod NodeNames
+pub mod LastNodes
+pub mod Indexing
+pub mod Counting
+pub mod CodeNames
+pub mod FewPlaces

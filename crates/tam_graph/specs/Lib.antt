@@ -7,6 +7,10 @@ pub mod Accepted
 pub mod Lines
 pub mod Texts
 pub mod Reading
+pub mod Finding
+pub mod NodeLists
+pub mod KeptCodes
+pub mod Hashes
 pub mod Built
 pub mod ExampleGraphs
 pub mod AcceptedExamples

@@ -48,6 +48,10 @@ pub record IsCodeOfText (codes : ℕ) (c : Code) : Type 0 where
   pub nodes_named : all_of is_named_right c.nodes ≡ true
   pub nodes_differ : all_differ same_bytes (names_in c) ≡ true
 
+-- the code stands in some text within the limits
+abbrev pub IsCode : Code → Type 0
+IsCode c = (codes : ℕ) × (codes ≤ 256) × IsCodeOfText codes c
+
 -- the graph is that of some text
 pub record IsOfText (g : Graph) : Type 0 where
   pub each_code : (n : ℕ) → n < length g.codes → IsCodeOfText (length g.codes) (code_of g n)

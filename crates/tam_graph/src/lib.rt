@@ -4,10 +4,19 @@
 //! Read `specs/Graphs.antt` first, then `specs/Accepted.antt` (which graphs are accepted) and `specs/Texts.antt` (their canonical text).
 #![tactic(auto)]
 
+mod accepted;
+mod code;
+mod graph;
+mod index;
 mod kind;
 mod name;
 mod node;
+mod place;
 
+pub use accepted::Accepted;
+pub use code::Code;
+pub use graph::Graph;
 pub use kind::Kind;
 pub use name::Name;
 pub use node::Node;
+pub use place::Place;

@@ -1,6 +1,6 @@
 // The name of a code or of a node.
 ghost use Rattle.std.specs.Prelude.{◌≡◌, ◌↔◌, IsSome, IfSome};
-ghost use Rattle.tam_word.specs.Lists.{all_of};
+ghost use Rattle.tam_word.specs.Lists.{all_of, same_bytes};
 ghost use Rattle.tam_graph.specs.Names.{IsName, is_name, is_letter, continues_name};
 
 use std::marker::Model;
@@ -55,6 +55,13 @@ impl Name {
         ensures named { IsName self.now }
     {
         &self.bytes[..self.len]
+    }
+
+    /// Whether the name is these bytes.
+    pub fn is(&self, bytes: &[u8]) -> bool
+        ensures same { result ≡ same_bytes bytes.now self.now }
+    {
+        bytes == self.bytes()
     }
 }
 

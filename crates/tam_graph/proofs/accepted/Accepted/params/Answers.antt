@@ -1,0 +1,6 @@
+use Rattle.tam_graph.proofs.FewPlaces.{few-params}
+use Rattle.tam_graph.proofs.accepted.Accepted.params.Goals as goal
+
+pub returns-clause-few : goal.returns-clause-few
+returns-clause-few c =
+    rw (c.params.ensures.value, c.code.ensures.value) (few-params c.self.inside.graph c.self.invariant.1 c.args.code (rw (← c.self.view_is) at c.requires.in_range))

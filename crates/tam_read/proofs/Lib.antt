@@ -1,0 +1,12 @@
+pub mod LineLemmas
+pub mod Called
+pub mod Keeping
+pub mod Among
+pub mod Limits
+pub mod Nothing
+pub mod Passed
+pub mod Looping
+pub mod Naming
+pub mod Nested
+pub mod Made
+pub mod Codes

@@ -10,3 +10,4 @@ pub mod Naming
 pub mod Nested
 pub mod Made
 pub mod Codes
+pub mod Tabled

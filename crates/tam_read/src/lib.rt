@@ -17,6 +17,7 @@ mod pass;
 mod refusal;
 pub mod said;
 pub mod second_pass;
+pub mod table;
 #[cfg(test)]
 mod tests;
 mod words;

@@ -6,8 +6,9 @@ pub mod Limits
 pub mod Nothing
 pub mod Passed
 pub mod Looping
-pub mod Naming
+pub mod SecondLoop
 pub mod Nested
 pub mod Made
 pub mod Codes
 pub mod Tabled
+pub mod Changed

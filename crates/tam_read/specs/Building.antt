@@ -62,7 +62,7 @@ node_said k block next s = record { name = name_given (names_made s); depth = de
 pub record Built : Type 0 where
   pub nodes : List Node
   pub owners : List (Option ℕ)
-  pub open : List Branch
+  pub within : List Branch
 
 -- the number of the innermost block
 abbrev pub block_within : List Branch → ℕ
@@ -85,7 +85,7 @@ a_branch block cond = record { block = block; cond = cond }
 
 -- a cond with its else block
 abbrev pub else_kind : ℕ → Kind → Kind
-else_kind n (kind.Cond p yes other) = kind.Cond p yes n
+else_kind n (kind.Cond p y other) = kind.Cond p y n
 else_kind n k = k
 
 abbrev pub with_else : ℕ → Node → Node
@@ -93,7 +93,15 @@ with_else n m = record { name = m.name; depth = m.depth; block = m.block; kind =
 
 -- with a node more in the innermost block
 abbrev pub with_node : Known → Built → Sentence → List Node
-with_node k b s = b.nodes ++ node_said k (block_within b.open) (length b.owners) s ∷ []
+with_node k b s = b.nodes ++ node_said k (block_within b.within) (length b.owners) s ∷ []
+
+-- behind an `else`
+abbrev pub turned_else : Built → Built
+turned_else b = record {
+  nodes = changed_at (cond_within b.within) (with_else (length b.owners)) b.nodes;
+  owners = b.owners ++ Some (cond_within b.within) ∷ [];
+  within = a_branch (length b.owners) (cond_within b.within) ∷ outside b.within;
+}
 
 -- behind a line with a verb
 abbrev pub built_by : Known → Built → Sentence → Verb → Built
@@ -101,15 +109,11 @@ built_by k b s verb.Code = b
 built_by k b s verb.Cond = record {
   nodes = with_node k b s;
   owners = b.owners ++ Some (length b.nodes) ∷ [];
-  open = a_branch (length b.owners) (length b.nodes) ∷ b.open;
+  within = a_branch (length b.owners) (length b.nodes) ∷ b.within;
 }
-built_by k b s verb.Else = record {
-  nodes = changed_at (cond_within b.open) (with_else (length b.owners)) b.nodes;
-  owners = b.owners ++ Some (cond_within b.open) ∷ [];
-  open = a_branch (length b.owners) (cond_within b.open) ∷ outside b.open;
-}
-built_by k b s verb.End = record { nodes = b.nodes; owners = b.owners; open = outside b.open }
-built_by k b s v = record { nodes = with_node k b s; owners = b.owners; open = b.open }
+built_by k b s verb.Else = turned_else b
+built_by k b s verb.End = record { nodes = b.nodes; owners = b.owners; within = outside b.within }
+built_by k b s v = record { nodes = with_node k b s; owners = b.owners; within = b.within }
 
 -- behind a line
 abbrev pub built_behind : Known → Built → Sentence → Built
@@ -122,4 +126,4 @@ built k b (s ∷ ss) = built k (built_behind k b s) ss
 
 -- before the first line of a code: its block 0 is open
 abbrev pub nothing_built : Built
-nothing_built = record { nodes = []; owners = None ∷ []; open = a_branch 0 0 ∷ [] }
+nothing_built = record { nodes = []; owners = None ∷ []; within = a_branch 0 0 ∷ [] }

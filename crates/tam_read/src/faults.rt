@@ -11,7 +11,7 @@ use crate::names::{is_name, name_made};
 use crate::said::Said;
 use tam_word::{read_number, read_word};
 
-const MAX_PLACE: u32 = 63;
+pub const MAX_PLACE: u32 = 63;
 
 fn is_name_for(role: Role, token: &[u8]) -> bool
     ensures { result ≡ is_name_for role token.now }

@@ -17,6 +17,10 @@ mod pass;
 mod refusal;
 pub mod said;
 pub mod second_pass;
+pub mod branch;
+pub mod building;
+pub mod naming;
+mod node;
 pub mod table;
 #[cfg(test)]
 mod tests;

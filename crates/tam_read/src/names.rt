@@ -22,7 +22,7 @@ pub fn is_name(bytes: &[u8]) -> bool
 }
 
 // Whether a depth stands at the end.
-fn has_depth(token: &[u8]) -> bool
+pub fn has_depth(token: &[u8]) -> bool
     ensures { result ≡ has_depth token.now }
 {
     let len = token.len();

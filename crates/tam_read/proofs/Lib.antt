@@ -12,3 +12,6 @@ pub mod Made
 pub mod Codes
 pub mod Tabled
 pub mod Changed
+pub mod Growing
+pub mod Bodies
+pub mod Pieces

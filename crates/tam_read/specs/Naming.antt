@@ -1,5 +1,5 @@
 -- What a token names: a node, a code, a place or a word, as its role has it; and the faults of a line whose names name nothing.
-use Rattle.std.specs.Prelude.{ℕ, Bool, true, false, not, List, [], ◌∷◌, ◌++◌, map, flat_map, Option, Some, None}
+use Rattle.std.specs.Prelude.{ℕ, Bool, true, false, not, List, [], ◌∷◌, ◌++◌, map, Option, Some, None}
 use Rattle.tam_word.specs.Lists.{where_so}
 use Rattle.tam_word.specs.Numbers.{word_of, place_of}
 use Rattle.tam_read.specs.declared.cause.ReadCause.{ReadCause}
@@ -40,7 +40,8 @@ faults_known k s =
 
 -- the faults of a code's lines
 abbrev pub faults_within : Known → List (ℕ × Sentence) → List (ℕ × ReadCause)
-faults_within k body = flat_map (λ p. map (λ c. (p.0, c)) (faults_known k p.1)) body
+faults_within k [] = []
+faults_within k (p ∷ body) = map (λ c. (p.0, c)) (faults_known k p.1) ++ faults_within k body
 
 -- ---- numbers
 

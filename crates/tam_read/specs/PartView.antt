@@ -1,0 +1,14 @@
+-- What is read of a code, without where it lies.
+use Rattle.std.specs.Prelude.{List, map}
+use Rattle.tam_read.specs.declared.line.Line.{Line}
+use Rattle.tam_read.specs.declared.part.Part.{Part as Fields}
+use Rattle.tam_read.specs.LineView.{saying, numbered}
+use Rattle.tam_read.specs.Parts.{Part, Piece, code_built}
+use Rattle.tam_read.specs.BuildingView.{built_so_far}
+
+abbrev pub part : Fields → Part
+part p = record { code = code_built p.name.now (built_so_far p.built); line = p.line; lines = p.lines.items }
+
+-- the code of a line and of the lines behind it
+abbrev pub piece : Line → List Line → Piece
+piece line body = record { line = line.number; head = saying line; body = map numbered body }

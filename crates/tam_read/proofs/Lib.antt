@@ -15,3 +15,4 @@ pub mod Changed
 pub mod Growing
 pub mod Bodies
 pub mod Pieces
+pub mod Sets

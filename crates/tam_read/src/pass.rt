@@ -11,15 +11,15 @@ use crate::block::{Block, Opening};
 use crate::cause::{Limit, ReadCause};
 use crate::faults::{has_bad_name, has_bad_number};
 use crate::form::{Verb, vertices_of};
-use crate::names::{is_same, name_made};
+use crate::names::name_made;
 use crate::said::Said;
-use std::alloc::AllocError;
+use indexmap::IndexSet;
 
 /// What is kept of the lines before a line.
 #[derive(Drop)]
 pub struct Kept<'t> {
-    pub codes: Vec<&'t [u8]>,
-    pub names: Vec<&'t [u8]>,
+    pub codes: IndexSet<&'t [u8]>,
+    pub names: IndexSet<&'t [u8]>,
     pub vertices: u32,
     pub blocks: Vec<Block>,
 }
@@ -35,20 +35,6 @@ fn is_cond(verb: Verb) -> bool
     ensures { result ≡ is_cond verb }
 {
     matches!(verb, Verb::Cond)
-}
-
-// Whether the name stands among others.
-fn is_among(name: &[u8], others: &[&[u8]]) -> bool
-    ensures { result ≡ any_of (same_bytes name.now) (texts others.now) }
-{
-    let mut rest = others;
-    while let [other, others_left @ ..] = rest {
-        if is_same(name, other) {
-            return true;
-        }
-        rest = others_left;
-    }
-    false
 }
 
 fn innermost(blocks: &[Block]) -> Option<Block>
@@ -69,16 +55,16 @@ fn is_out_of_place(verb: Verb, blocks: &[Block]) -> bool
     }
 }
 
-// The same, where the latest of the others is the last.
-fn is_kept(name: &[u8], others: &[&[u8]]) -> bool
-    ensures { result ≡ any_of (same_bytes name.now) (texts (reverse others.now)) }
+// Whether the name stands among others.
+fn is_kept(name: &[u8], others: &IndexSet<&[u8]>) -> bool
+    ensures { result ≡ any_of (same_bytes name.now) (texts (reverse others.now.keys)) }
 {
-    is_among(name, others)
+    others.contains(&name)
 }
 
 // Whether a code before has the name of the code that begins.
-fn is_code_again(said: &Said<'_, '_>, codes: &[&[u8]]) -> bool
-    ensures { result ≡ some_shared (code_begun (seen said.now)) (texts (reverse codes.now)) }
+fn is_code_again(said: &Said<'_, '_>, codes: &IndexSet<&[u8]>) -> bool
+    ensures { result ≡ some_shared (code_begun (seen said.now)) (texts (reverse codes.now.keys)) }
 {
     if !is_code(said.verb) {
         return false;
@@ -90,8 +76,8 @@ fn is_code_again(said: &Said<'_, '_>, codes: &[&[u8]]) -> bool
 }
 
 // Whether a node before has the name of the node that is made.
-fn is_node_again(said: &Said<'_, '_>, names: &[&[u8]]) -> bool
-    ensures { result ≡ some_shared (names_made (seen said.now)) (texts (reverse names.now)) }
+fn is_node_again(said: &Said<'_, '_>, names: &IndexSet<&[u8]>) -> bool
+    ensures { result ≡ some_shared (names_made (seen said.now)) (texts (reverse names.now.keys)) }
 {
     match said.name {
         Some(token) => is_kept(name_made(said.verb, token), names),

@@ -16,3 +16,5 @@ pub mod Growing
 pub mod Bodies
 pub mod Pieces
 pub mod Sets
+pub mod Clean
+pub mod Looked

@@ -6,7 +6,6 @@ pub mod Limits
 pub mod Nothing
 pub mod Passed
 pub mod Looping
-pub mod SecondLoop
 pub mod Nested
 pub mod Made
 pub mod Codes
@@ -18,3 +17,5 @@ pub mod Pieces
 pub mod Sets
 pub mod Clean
 pub mod Looked
+pub mod Contexts
+pub mod CodeByCode

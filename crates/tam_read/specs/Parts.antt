@@ -1,10 +1,11 @@
 -- The codes of a text's lines: each with its own lines, and what is built of them.
 use Rattle.std.specs.Prelude.{ℕ, true, false, List, [], ◌∷◌, ◌++◌, map}
 use Rattle.tam_graph.specs.Graphs.{Code}
+use Rattle.tam_graph.specs.Lines.{lines_of}
 use Rattle.tam_read.specs.declared.cause.ReadCause.{ReadCause}
 use Rattle.tam_read.specs.Sentences.{Sentence, is_code, code_begun}
-use Rattle.tam_read.specs.Faults.{sayings}
-use Rattle.tam_read.specs.Tables.{Entries, is_node, nodes_from}
+use Rattle.tam_read.specs.Faults.{sayings, said_from}
+use Rattle.tam_read.specs.Tables.{Entries, is_node, nodes_from, codes_from}
 use Rattle.tam_read.specs.Naming.{Known, faults_within}
 use Rattle.tam_read.specs.Building.{Built, built, nothing_built}
 
@@ -65,3 +66,11 @@ part_made codes q = record {
   line = q.line;
   lines = node_lines q.body;
 }
+
+-- the names of the codes of lines
+abbrev pub codes_in : Numbered → Entries
+codes_in ns = codes_from 0 (sayings ns) []
+
+-- what the codes of a text are read into
+abbrev pub parts_in : List ℕ → List Part
+parts_in bytes = map (part_made (codes_in (said_from 1 (lines_of bytes)))) (pieces (said_from 1 (lines_of bytes)))

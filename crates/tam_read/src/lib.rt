@@ -16,7 +16,6 @@ mod names;
 mod pass;
 mod refusal;
 pub mod said;
-pub mod second_pass;
 pub mod branch;
 mod body;
 pub mod part;

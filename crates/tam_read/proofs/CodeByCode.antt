@@ -13,7 +13,7 @@ use Rattle.tam_read.specs.Sentences.{Sentence, sentence_of, is_code, code_begun}
 use Rattle.tam_read.specs.Faults.{until_code, is_out_of_place, makes_named, faults_of_names, sayings, said, said_from, second_pass, faults_of_second, first_pass, last_line, faults, first_fault}
 use Rattle.tam_read.specs.Tables.{Entries, found, nodes_from, codes_from}
 use Rattle.tam_read.specs.Naming.{Known, is_made, faults_within}
-use Rattle.tam_read.specs.Parts.{Numbered, Piece, body_of, pieces, known_in, faults_of_pieces}
+use Rattle.tam_read.specs.Parts.{Numbered, Piece, body_of, pieces, known_in, faults_of_pieces, codes_in}
 use Rattle.tam_read.proofs.Clean.{AreClean, NoCode, DifferBehind, clean-lines, clean-parts, names-differ}
 use Rattle.tam_read.proofs.Looked.{node_list, found-nodes, nodes-found, code_list, found-codes, codes-found}
 use Rattle.tam_read.proofs.Contexts.{put_before, until-here, code-faultless, body-faults}
@@ -128,3 +128,8 @@ second-by-codes bytes e =
     let ns = said_from 1 (lines_of bytes) in
     let clean : AreClean [] (sayings ns) = subst (λ ss. AreClean [] ss) (sym (sayings-said_from 1 (lines_of bytes))) (clean-lines (last_line bytes) [] 1 (lines_of bytes) e) in
     by-codes (sayings ns) (codes_from 0 (sayings ns) []) (codes-agree (sayings ns)) (length ns) [] ns (omega arith) (clean-starts (sayings ns) clean) clean
+
+-- the faults of a text without a fault of the first pass
+pub faults-by-codes : (bytes : List ℕ) → first_pass (last_line bytes) [] 1 (lines_of bytes) ≡ []
+    → faults bytes ≡ faults_of_pieces (codes_in (said_from 1 (lines_of bytes))) (pieces (said_from 1 (lines_of bytes)))
+faults-by-codes bytes e = rw (faults, e) (second-by-codes bytes e)

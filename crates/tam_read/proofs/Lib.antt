@@ -19,3 +19,4 @@ pub mod Clean
 pub mod Looked
 pub mod Contexts
 pub mod CodeByCode
+pub mod Refusing

@@ -20,3 +20,4 @@ pub mod Looked
 pub mod Contexts
 pub mod CodeByCode
 pub mod Refusing
+pub mod TreeBuilt

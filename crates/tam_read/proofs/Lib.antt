@@ -7,7 +7,6 @@ pub mod Nothing
 pub mod Passed
 pub mod Looping
 pub mod Nested
-pub mod Made
 pub mod Codes
 pub mod Tabled
 pub mod Changed
@@ -21,3 +20,4 @@ pub mod Contexts
 pub mod CodeByCode
 pub mod Refusing
 pub mod TreeBuilt
+pub mod TreeVisited

@@ -5,7 +5,7 @@ use Rattle.tam_word.specs.Lists.{changed_at}
 use Rattle.tam_graph.specs.declared.kind.Kind.{Kind}
 use Rattle.tam_graph.specs.declared.kind.Kind.TheVariants as kind
 use Rattle.tam_graph.specs.declared.node.Node.{Node}
-use Rattle.tam_graph.proofs.Visited.{is_plain, size, opened}
+use Rattle.tam_graph.proofs.Visited.{Items, Done as NoItem, Plain as Item, Branch as Split, is_plain, size, opened}
 use Rattle.tam_read.specs.declared.form.Verb.{Verb}
 use Rattle.tam_read.specs.declared.form.Verb.TheVariants as verb
 use Rattle.tam_read.specs.declared.branch.Branch.{Branch as OpenBlock}
@@ -13,7 +13,12 @@ use Rattle.tam_read.specs.Sentences.{Sentence, roles_of, names_made}
 use Rattle.tam_read.specs.Naming.{Known, first_number, second_number, third_number}
 use Rattle.tam_read.specs.Building.{kind_made, kind_said, depth_made, name_given, node_said, Built, built, built_behind, built_by, turned_else, with_else, else_kind, block_within, cond_within, outside, a_branch}
 use Rattle.tam_read.proofs.Nested.{Tree, Done, Plain, Branch, flat, Fits, is_plain_verb}
-use Rattle.tam_read.proofs.Made.{shape}
+
+-- a tree without its sentences
+abbrev pub shape : Tree → Items
+shape Done = NoItem
+shape (Plain s r) = Item (shape r)
+shape (Branch s y t n e r) = Split (shape y) (shape n) (shape r)
 
 -- the node of a line that isn't a cond's
 abbrev pub node_plain : Known → ℕ → Sentence → Node

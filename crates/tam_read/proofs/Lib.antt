@@ -21,3 +21,4 @@ pub mod CodeByCode
 pub mod Refusing
 pub mod TreeBuilt
 pub mod TreeVisited
+pub mod BlocksInOrder

@@ -86,7 +86,7 @@ agrees q c (Branch s y t n e r) b x k f h = (
   agrees q c r b (suc x + size (shape y) + size (shape n)) (suc (suc k + opened (shape y)) + opened (shape n)) f.5 h.3,
 )
 
-past_end : (ns : List Node) (z : ℕ) → length ns ≤ z → or_block (slice_get ns z) ≡ 0
+pub past_end : (ns : List Node) (z : ℕ) → length ns ≤ z → or_block (slice_get ns z) ≡ 0
 past_end [] z h = refl
 past_end (n ∷ ns) zero h = absurd (omega arith)
 past_end (n ∷ ns) (suc z) h = past_end ns z (omega arith)

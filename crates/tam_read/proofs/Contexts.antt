@@ -87,7 +87,7 @@ until-on : (s : Sentence) (ss : List Sentence) → is_code s.verb ≡ false → 
 until-on s ss e = rw (until_code, e) refl
 
 -- lines without a code, up to the next code
-until-front : (bs tail : List Sentence) → NoCode bs → until_code tail ≡ [] → until_code (bs ++ tail) ≡ bs
+pub until-front : (bs tail : List Sentence) → NoCode bs → until_code tail ≡ [] → until_code (bs ++ tail) ≡ bs
 until-front [] tail none e = e
 until-front (b ∷ bs) tail none e = until-on b (bs ++ tail) none.0 ∙ ap (λ ss. b ∷ ss) (until-front bs tail none.1 e)
 

@@ -22,3 +22,4 @@ pub mod Refusing
 pub mod TreeBuilt
 pub mod TreeVisited
 pub mod BlocksInOrder
+pub mod ReadCodes

@@ -1,29 +1,34 @@
-//! Reads a graph from its text, or answers the first line with a fault and its cause.
+//! Reads a graph from its text, or refuses the text at its first fault.
 //!
-//! Over words and graphs.
-//! Read `specs/Sentences.antt` first, what a line may say, and then `specs/Faults.antt`, what is wrong with it.
+//! Over words and graphs. So far the text's fault is told, and the parts of its codes are read; nothing makes the graph of them.
+//! Read `specs/Sentences.antt` first, what a line may say, then `specs/Faults.antt`, what is wrong with a text, and
+//! `specs/Building.antt`, what a code's lines make. The first pass is `src/first_pass.rt`, the second `src/part.rt`.
 #![tactic(auto)]
 
-pub mod block;
-pub mod cause;
+mod block;
+mod body;
+mod branch;
+mod building;
+mod cause;
 mod faults;
-pub mod first_pass;
-pub mod form;
+mod first_pass;
+mod form;
 mod keep;
-pub mod line;
+mod line;
 mod lines;
 mod names;
+mod naming;
+mod node;
+mod part;
 mod pass;
 mod refusal;
-pub mod said;
-pub mod branch;
-mod body;
-pub mod part;
-pub mod refused;
-pub mod building;
-pub mod naming;
-mod node;
-pub mod table;
+mod refused;
+mod said;
+mod table;
 #[cfg(test)]
 mod tests;
 mod words;
+
+pub use cause::{Limit, ReadCause};
+pub use refusal::check_text;
+pub use refused::Refused;

@@ -61,8 +61,7 @@ holds q c (Branch s y t n e r) b x k front back same l =
     let e0 : (ys ++ (ns ++ rs)) ++ back ≡ ys ++ (ns ++ (rs ++ back)) = append_assoc ys (ns ++ rs) back ∙ ap (λ z. ys ++ z) (append_assoc ns rs back) in
     let e1 : c.nodes ≡ f1 ++ (ys ++ (ns ++ (rs ++ back))) = same ∙ ap (λ z. front ++ node ∷ z) e0 ∙ sym (append_assoc front (node ∷ []) (ys ++ (ns ++ (rs ++ back)))) in
     let e2 : c.nodes ≡ f2 ++ (ns ++ (rs ++ back)) = e1 ∙ sym (append_assoc f1 ys (ns ++ (rs ++ back))) in
-    let e3 : c.nodes ≡ f3 ++ (rs ++ back) = e2 ∙ sym (append_assoc f2 ns (rs ++ back)) in
-    (
+    let e3 : c.nodes ≡ f3 ++ (rs ++ back) = e2 ∙ sym (append_assoc f2 ns (rs ++ back)) in (
       node_at c x front node ((ys ++ (ns ++ rs)) ++ back) same l,
       holds q c y k (suc x) (suc k) f1 (ns ++ (rs ++ back)) e1 l1,
       holds q c n j (suc x + size (shape y)) (suc j) f2 (rs ++ back) e2 l2,

@@ -30,11 +30,7 @@ fn nothing_built(alloc: Global) -> Result<Building, AllocError>
 }
 
 // Reads a line that names nothing unknown.
-fn build_line(
-    built: &mut Building,
-    names: &Known<'_, '_>,
-    line: &Line<'_>,
-) -> Result<(), Refused>
+fn build_line(built: &mut Building, names: &Known<'_, '_>, line: &Line<'_>) -> Result<(), Refused>
     requires nodes { length built.old.nodes.items < 2 ^ 32 }
     requires owners { length built.old.owners.items < 2 ^ 32 }
     ensures ok { OnOk result (built_so_far built.new ≡ built_behind (known names.now) (built_so_far built.old) (saying line.now)) }

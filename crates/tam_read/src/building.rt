@@ -87,7 +87,11 @@ fn push_owner(owners: &mut Vec<Option<u32>>, cond: u32) -> Result<(), AllocError
 }
 
 // Builds the node of a line in the innermost block.
-fn build_node(built: &mut Building, names: &Known<'_, '_>, line: &Line<'_>) -> Result<(), AllocError>
+fn build_node(
+    built: &mut Building,
+    names: &Known<'_, '_>,
+    line: &Line<'_>,
+) -> Result<(), AllocError>
     requires { length built.old.owners.items < 2 ^ 32 }
     ensures nodes { OnOk result (built.new.nodes.items ≡ with_node (known names.now) (built_so_far built.old) (saying line.now)) }
     ensures owners { OnOk result (built.new.owners.items ≡ built.old.owners.items) }
@@ -108,7 +112,11 @@ fn build_node(built: &mut Building, names: &Known<'_, '_>, line: &Line<'_>) -> R
 }
 
 // Builds a cond, and opens its then block.
-fn build_cond(built: &mut Building, names: &Known<'_, '_>, line: &Line<'_>) -> Result<(), AllocError>
+fn build_cond(
+    built: &mut Building,
+    names: &Known<'_, '_>,
+    line: &Line<'_>,
+) -> Result<(), AllocError>
     requires nodes { length built.old.nodes.items < 2 ^ 32 }
     requires owners { length built.old.owners.items < 2 ^ 32 }
     ensures { OnOk result (built_so_far built.new ≡ built_by (known names.now) (built_so_far built.old) (saying line.now) verb.Cond) }

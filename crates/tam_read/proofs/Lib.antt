@@ -23,3 +23,8 @@ pub mod TreeBuilt
 pub mod TreeVisited
 pub mod BlocksInOrder
 pub mod ReadCodes
+pub mod Worded
+pub mod Spelling
+pub mod TreeSpelled
+pub mod Entered
+pub mod CodesSpelled

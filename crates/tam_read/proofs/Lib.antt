@@ -28,3 +28,4 @@ pub mod Spelling
 pub mod TreeSpelled
 pub mod Entered
 pub mod CodesSpelled
+pub mod TextLines

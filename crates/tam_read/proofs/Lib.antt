@@ -29,3 +29,5 @@ pub mod TreeSpelled
 pub mod Entered
 pub mod CodesSpelled
 pub mod TextLines
+pub mod Goodness
+pub mod LinesRight

@@ -63,11 +63,11 @@ pub record AreFound (g : Graph) (c : Code) (q : Known) : Type 0 where
   pub nodes : (t : List ℕ) (m : Made) → found t q.nodes ≡ Some m → node_name c m.number ≡ t
   pub codes : (t : List ℕ) (m : Made) → found t q.codes ≡ Some m → (code_of g m.number).name ≡ t
 
-made-some : (r : Role) (o : Option Made) → is_made r o ≡ true → (m : Made) × (o ≡ Some m) × (same_role r m.role ≡ true)
+pub made-some : (r : Role) (o : Option Made) → is_made r o ≡ true → (m : Made) × (o ≡ Some m) × (same_role r m.role ≡ true)
 made-some r None e = absurd (true≢false (sym e))
 made-some r (Some m) e = (m, refl, e)
 
-some-there : {X : Type 0} (o : Option X) → is_some o ≡ true → (x : X) × (o ≡ Some x)
+pub some-there : {X : Type 0} (o : Option X) → is_some o ≡ true → (x : X) × (o ≡ Some x)
 some-there None e = absurd (true≢false (sym e))
 some-there (Some x) e = (x, refl)
 
@@ -106,14 +106,14 @@ module _ (g : Graph) (c : Code) (q : Known) (are : AreFound g c q) where
   role_tokens (r ∷ rs) [] = []
   role_tokens (r ∷ rs) (t ∷ ts) = role_token g c r (number_for q r t) ∷ role_tokens rs ts
 
-  first-of-each : (f : Role → List ℕ → Bool) (r : Role) (rs : List Role) (t : List ℕ) (ts : List (List ℕ)) → each_token f (r ∷ rs) (t ∷ ts) ≡ true → (f r t ≡ true) × (each_token f rs ts ≡ true)
+  pub first-of-each : (f : Role → List ℕ → Bool) (r : Role) (rs : List Role) (t : List ℕ) (ts : List (List ℕ)) → each_token f (r ∷ rs) (t ∷ ts) ≡ true → (f r t ≡ true) × (each_token f rs ts ≡ true)
   first-of-each f r rs t ts e = go (f r t) refl
     where
       go : (b : Bool) → f r t ≡ b → (f r t ≡ true) × (each_token f rs ts ≡ true)
       go true p = (p, rw (each_token, p) at e)
       go false p = absurd (true≢false (sym (rw (each_token, p) at e)))
 
-  first-of-all : (f : Role → Bool) (r : Role) (rs : List Role) → all_of f (r ∷ rs) ≡ true → (f r ≡ true) × (all_of f rs ≡ true)
+  pub first-of-all : (f : Role → Bool) (r : Role) (rs : List Role) → all_of f (r ∷ rs) ≡ true → (f r ≡ true) × (all_of f rs ≡ true)
   first-of-all f r rs e = go (f r) refl
     where
       go : (b : Bool) → f r ≡ b → (f r ≡ true) × (all_of f rs ≡ true)
@@ -198,7 +198,7 @@ pub form-parts : (o : Option Role) (name rest : List (List ℕ)) (roles : List R
     → ((elim o [ None ↦ length name == 0 | Some r ↦ length name == 1 ]) ≡ true) × (length rest ≡ length roles)
 form-parts o name rest roles e = let p = both-true (elim o [ None ↦ length name == 0 | Some r ↦ length name == 1 ]) (length rest == length roles) e in (p.0, number-eq (length rest) (length roles) p.1)
 
-no-element : (xs : List (List ℕ)) → length xs ≡ 0 → xs ≡ []
+pub no-element : (xs : List (List ℕ)) → length xs ≡ 0 → xs ≡ []
 no-element [] e = refl
 no-element (x ∷ xs) e = absurd (omega arith)
 

@@ -31,3 +31,4 @@ pub mod CodesSpelled
 pub mod TextLines
 pub mod Goodness
 pub mod LinesRight
+pub mod NodesRight

@@ -32,3 +32,4 @@ pub mod TextLines
 pub mod Goodness
 pub mod LinesRight
 pub mod NodesRight
+pub mod Bounded

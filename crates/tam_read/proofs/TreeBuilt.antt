@@ -102,7 +102,7 @@ one-longer : {X : Type 0} (xs : List X) (x : X) (n : ℕ) → length xs ≡ n �
 one-longer xs x n e = length-append xs (x ∷ []) ∙ omega arith
 
 -- the lines of a tree with a cond, with lines behind
-flat-branch : (s : Sentence) (y : Tree) (t : Sentence) (n : Tree) (e : Sentence) (r : Tree) (rest : List Sentence)
+pub flat-branch : (s : Sentence) (y : Tree) (t : Sentence) (n : Tree) (e : Sentence) (r : Tree) (rest : List Sentence)
     → flat (Branch s y t n e r) ++ rest ≡ s ∷ (flat y ++ (t ∷ (flat n ++ (e ∷ (flat r ++ rest)))))
 flat-branch s y t n e r rest =
     ap (λ l. s ∷ l) (append_assoc (flat y) (t ∷ (flat n ++ (e ∷ flat r))) rest ∙ ap (λ l. flat y ++ (t ∷ l)) (append_assoc (flat n) (e ∷ flat r) rest))

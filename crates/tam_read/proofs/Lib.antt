@@ -33,3 +33,5 @@ pub mod Goodness
 pub mod LinesRight
 pub mod NodesRight
 pub mod Bounded
+pub mod BlockLimits
+pub mod NamesDiffer

@@ -263,7 +263,7 @@ total-both : (f g : ℕ → ℕ) (xs : List ℕ) → total (λ d. f d + g d) xs 
 total-both f g [] = refl
 total-both f g (x ∷ xs) = let i = total-both f g xs in omega (arith, i)
 
-vertices-append : (xs ys : List Sentence) → vertices (xs ++ ys) ≡ vertices xs + vertices ys
+pub vertices-append : (xs ys : List Sentence) → vertices (xs ++ ys) ≡ vertices xs + vertices ys
 vertices-append [] ys = omega arith
 vertices-append (x ∷ xs) ys = let i = vertices-append xs ys in omega (arith, i)
 

@@ -93,7 +93,7 @@ module _ (bytes : List ℕ) (none : faults bytes ≡ []) where
   no-piece = sym (faults-by-codes bytes first) ∙ none
 
   -- each line of the codes has its form
-  formed : (s : Sentence) → In s (lines_of_codes read.lines) → has_form s.name s.rest s.verb ≡ true
+  pub formed : (s : Sentence) → In s (lines_of_codes read.lines) → has_form s.name s.rest s.verb ≡ true
   formed s i = all-formed (map words_of (lines_of bytes)) s (subst (λ ss. In s ss) (sym read.said ∙ sayings-said_from 1 (lines_of bytes)) i)
 
   -- what a line of a code's body names is found

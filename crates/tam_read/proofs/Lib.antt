@@ -35,3 +35,4 @@ pub mod NodesRight
 pub mod Bounded
 pub mod BlockLimits
 pub mod NamesDiffer
+pub mod OfText

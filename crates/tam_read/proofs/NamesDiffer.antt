@@ -46,7 +46,7 @@ given-one (n ∷ []) rest few h = go (is_name n) refl
     go false e = absurd (true≢false (sym (rw (all_of, e) at h)))
 given-one (n ∷ m ∷ ns) rest few h = absurd (omega arith)
 
-mapped : {X Y : Type 0} (f : X → Y) (xs : List X) → length (map f xs) ≡ length xs
+pub mapped : {X Y : Type 0} (f : X → Y) (xs : List X) → length (map f xs) ≡ length xs
 mapped f [] = refl
 mapped f (x ∷ xs) = ap suc (mapped f xs)
 

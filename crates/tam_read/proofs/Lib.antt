@@ -36,3 +36,4 @@ pub mod Bounded
 pub mod BlockLimits
 pub mod NamesDiffer
 pub mod OfText
+pub mod Assembled

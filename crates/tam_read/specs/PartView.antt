@@ -1,5 +1,6 @@
 -- What is read of a code, without where it lies.
-use Rattle.std.specs.Prelude.{List, map}
+use Rattle.std.specs.Prelude.{ℕ, List, map}
+use Rattle.tam_graph.specs.Graphs.{Code}
 use Rattle.tam_read.specs.declared.line.Line.{Line}
 use Rattle.tam_read.specs.declared.part.Part.{Part as Fields}
 use Rattle.tam_read.specs.LineView.{saying, numbered}
@@ -12,3 +13,11 @@ part p = record { code = code_built p.name.now (built_so_far p.built); line = p.
 -- the code of a line and of the lines behind it
 abbrev pub piece : Line → List Line → Piece
 piece line body = record { line = line.number; head = saying line; body = map numbered body }
+
+-- the code of what is read
+abbrev pub code_of_part : Fields → Code
+code_of_part p = code_built p.name.now (built_so_far p.built)
+
+-- its lines
+abbrev pub lines_of_part : Fields → ℕ × List ℕ
+lines_of_part p = (p.line, p.lines.items)

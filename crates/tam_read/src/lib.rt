@@ -1,8 +1,8 @@
 //! Reads a graph from its text, or refuses the text at its first fault.
 //!
-//! Over words and graphs. So far the text's fault is told, and the parts of its codes are read; nothing makes the graph of them.
+//! Over words and graphs. The checker tells the faults of what was read, by its places.
 //! Read `specs/Sentences.antt` first, what a line may say, then `specs/Faults.antt`, what is wrong with a text, and
-//! `specs/Building.antt`, what a code's lines make. The first pass is `src/first_pass.rt`, the second `src/part.rt`.
+//! `specs/Building.antt`, what a code's lines make. The first pass is `src/first_pass.rt`, the second `src/part.rt`; `src/reading.rt` makes the graph.
 #![tactic(auto)]
 
 mod block;
@@ -21,6 +21,8 @@ mod naming;
 mod node;
 mod part;
 mod pass;
+mod placed;
+mod reading;
 mod refusal;
 mod refused;
 mod said;
@@ -30,5 +32,6 @@ mod tests;
 mod words;
 
 pub use cause::{Limit, ReadCause};
-pub use refusal::check_text;
+pub use placed::Lines;
+pub use reading::{Found, read};
 pub use refused::Refused;

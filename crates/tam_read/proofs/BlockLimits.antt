@@ -1,5 +1,6 @@
 -- The blocks of a code that is read: none stands too deep, and none has too many vertices.
-use Rattle.std.proofs.Common.{◌≡◌, ◌≢◌, ℕ, zero, suc, ◌+◌, ◌<◌, ◌≤◌, Bool, true, false, ◌==◌, nat_lt, List, [], ◌∷◌, ◌++◌, length, filter, Option, Some, None, refl, sym, ap, ap₂, subst, ◌∙◌, true≢false, append_assoc, arith, inl, inr, ◌⊎◌, ⊎_elim}
+use Rattle.std.proofs.Common.{◌≡◌, ◌≢◌, ℕ, zero, suc, ◌+◌, ◌<◌, ◌≤◌, Bool, true, false, ◌==◌, nat_lt, List, [], ◌∷◌, ◌++◌, length, filter, Option, Some, None}
+use Rattle.std.proofs.Common.{refl, sym, ap, ap₂, subst, ◌∙◌, true≢false, append_assoc, arith, inl, inr, ◌⊎◌, ⊎_elim}
 use Rattle.std.specs.Prelude.{slice_get, sum_by}
 use Rattle.std.proofs.lemmas.List.{append-nil, length-append}
 use Rattle.std.proofs.lemmas.List.Sums.{sum_by-cons}
@@ -31,13 +32,15 @@ Owned c Done x k = Unit {0}
 Owned c (Plain s r) x k = Owned c r (suc x) k
 Owned c (Branch s y t n e r) x k =
     (slice_get c.owners k ≡ Some (Some x)) × Owned c y (suc x) (suc k) × (slice_get c.owners (suc k + opened (shape y)) ≡ Some (Some x))
-    × Owned c n (suc x + size (shape y)) (suc (suc k + opened (shape y))) × Owned c r (suc x + size (shape y) + size (shape n)) (suc (suc k + opened (shape y)) + opened (shape n))
+    × Owned c n (suc x + size (shape y)) (suc (suc k + opened (shape y)))
+    × Owned c r (suc x + size (shape y) + size (shape n)) (suc (suc k + opened (shape y)) + opened (shape n))
 
 at_front : (front : List (Option ℕ)) (o : Option ℕ) (back : List (Option ℕ)) → slice_get (front ++ o ∷ back) (length front) ≡ Some o
 at_front [] o back = refl
 at_front (f ∷ fs) o back = at_front fs o back
 
-owner_at : (c : Code) (k : ℕ) (front : List (Option ℕ)) (o : Option ℕ) (back : List (Option ℕ)) → c.owners ≡ front ++ o ∷ back → length front ≡ k → slice_get c.owners k ≡ Some o
+owner_at : (c : Code) (k : ℕ) (front : List (Option ℕ)) (o : Option ℕ) (back : List (Option ℕ)) → c.owners ≡ front ++ o ∷ back → length front ≡ k
+    → slice_get c.owners k ≡ Some o
 owner_at c k front o back e l = ap (λ os. slice_get os k) e ∙ ap (slice_get (front ++ o ∷ back)) (sym l) ∙ at_front front o back
 
 longer : (front : List (Option ℕ)) (o : Option ℕ) (k : ℕ) → length front ≡ k → length (front ++ o ∷ []) ≡ suc k
@@ -62,12 +65,13 @@ owns c (Branch s y t n e r) x k front back same l =
     let l2 : length f2 ≡ j = length-append f1 ys ∙ omega (arith, l1, length-tree_owners y (suc x)) in
     let l3 : length f3 ≡ suc j = longer f2 (Some x) j l2 in
     let l4 : length f4 ≡ m = length-append f3 ns ∙ omega (arith, l3, length-tree_owners n u) in
-    let e0 : (ys ++ (Some x ∷ (ns ++ rs))) ++ back ≡ ys ++ (Some x ∷ (ns ++ (rs ++ back))) = append_assoc ys (Some x ∷ (ns ++ rs)) back ∙ ap (λ z. ys ++ (Some x ∷ z)) (append_assoc ns rs back) in
-    let e1 : c.owners ≡ f1 ++ (ys ++ (Some x ∷ (ns ++ (rs ++ back)))) = same ∙ ap (λ z. front ++ (Some x ∷ z)) e0 ∙ sym (append_assoc front (Some x ∷ []) (ys ++ (Some x ∷ (ns ++ (rs ++ back))))) in
+    let e0 : (ys ++ (Some x ∷ (ns ++ rs))) ++ back ≡ ys ++ (Some x ∷ (ns ++ (rs ++ back))) = append_assoc ys (Some x ∷ (ns ++ rs)) back
+    ∙ ap (λ z. ys ++ (Some x ∷ z)) (append_assoc ns rs back) in
+    let e1 : c.owners ≡ f1 ++ (ys ++ (Some x ∷ (ns ++ (rs ++ back)))) = same ∙ ap (λ z. front ++ (Some x ∷ z)) e0
+    ∙ sym (append_assoc front (Some x ∷ []) (ys ++ (Some x ∷ (ns ++ (rs ++ back))))) in
     let e2 : c.owners ≡ f2 ++ (Some x ∷ (ns ++ (rs ++ back))) = e1 ∙ sym (append_assoc f1 ys (Some x ∷ (ns ++ (rs ++ back)))) in
     let e3 : c.owners ≡ f3 ++ (ns ++ (rs ++ back)) = e2 ∙ sym (append_assoc f2 (Some x ∷ []) (ns ++ (rs ++ back))) in
-    let e4 : c.owners ≡ f4 ++ (rs ++ back) = e3 ∙ sym (append_assoc f3 ns (rs ++ back)) in
-    (
+    let e4 : c.owners ≡ f4 ++ (rs ++ back) = e3 ∙ sym (append_assoc f3 ns (rs ++ back)) in (
       owner_at c k front (Some x) ((ys ++ (Some x ∷ (ns ++ rs))) ++ back) same l,
       owns c y (suc x) (suc k) f1 (Some x ∷ (ns ++ (rs ++ back))) e1 l1,
       owner_at c j f2 (Some x) (ns ++ (rs ++ back)) e2 l2,
@@ -84,7 +88,8 @@ deeper c b d x h w o e zero = omega arith
 deeper c b d x h w o e (suc f) = let own : owner_of c d ≡ x ∷ [] = ap one_or_none o in rw (depth_of_block, own, e) (let k = w f in omega arith)
 
 -- the blocks of a tree stand in at most 16
-pub tree-shallow : (c : Code) (q : Known) (t : Tree) (b x k h v : ℕ) → Holds c q t b x k → Owned c t x k → Bounded t h v → IsWithin c b h → (d : ℕ) → k ≤ d → d < k + opened (shape t) → IsWithin c d 16
+pub tree-shallow : (c : Code) (q : Known) (t : Tree) (b x k h v : ℕ) → Holds c q t b x k → Owned c t x k → Bounded t h v → IsWithin c b h → (d : ℕ) → k ≤ d
+    → d < k + opened (shape t) → IsWithin c d 16
 tree-shallow c q Done b x k h v s o bound w d lo hi = absurd (omega arith)
 tree-shallow c q (Plain l r) b x k h v s o bound w d lo hi = tree-shallow c q r b (suc x) k h (vertices_of l.verb + v) s.1 o bound.1 w d lo hi
 tree-shallow c q (Branch l y t n e r) b x k h v s o bound w d lo hi =
@@ -98,15 +103,15 @@ tree-shallow c q (Branch l y t n e r) b x k h v s o bound w d lo hi =
     ⊎_elim
     (λ (p : d < suc k). let is : d ≡ k = omega arith in subst (λ z. IsWithin c z 16) (sym is) (looser k then_in))
     (λ (p : suc k ≤ d). ⊎_elim
-      (λ (a : d < j). tree-shallow c q y k (suc x) (suc k) (suc h) 0 s.1 o.1 bound.2 then_in d p a)
-      (λ (a : j ≤ d). ⊎_elim
-        (λ (z : d < suc j). let is : d ≡ j = omega arith in subst (λ z. IsWithin c z 16) (sym is) (looser j else_in))
-        (λ (z : suc j ≤ d). ⊎_elim
-          (λ (i : d < m). tree-shallow c q n j (suc x + size (shape y)) (suc j) (suc h) 0 s.2 o.3 bound.3 else_in d z i)
-          (λ (i : m ≤ d). tree-shallow c q r b (suc x + size (shape y) + size (shape n)) m h (1 + v) s.3 o.4 bound.4 w d i (omega arith))
-          (cases_lt d m))
-        (cases_lt d (suc j)))
-      (cases_lt d j))
+    (λ (a : d < j). tree-shallow c q y k (suc x) (suc k) (suc h) 0 s.1 o.1 bound.2 then_in d p a)
+    (λ (a : j ≤ d). ⊎_elim
+    (λ (z : d < suc j). let is : d ≡ j = omega arith in subst (λ z. IsWithin c z 16) (sym is) (looser j else_in))
+    (λ (z : suc j ≤ d). ⊎_elim
+    (λ (i : d < m). tree-shallow c q n j (suc x + size (shape y)) (suc j) (suc h) 0 s.2 o.3 bound.3 else_in d z i)
+    (λ (i : m ≤ d). tree-shallow c q r b (suc x + size (shape y) + size (shape n)) m h (1 + v) s.3 o.4 bound.4 w d i (omega arith))
+    (cases_lt d m))
+    (cases_lt d (suc j)))
+    (cases_lt d j))
     (cases_lt d (suc k))
 
 -- ---- vertices
@@ -129,7 +134,8 @@ total-filter : (f : ℕ → ℕ) (test : ℕ → Bool) (xs : List ℕ) → total
 total-filter f test [] = refl
 total-filter f test (x ∷ xs) = go (test x) refl (total-filter f test xs)
   where
-    go : (b : Bool) → test x ≡ b → total f (filter test xs) ≡ total (λ x. where_true (test x) (f x)) xs → total f (filter test (x ∷ xs)) ≡ where_true (test x) (f x) + total (λ x. where_true (test x) (f x)) xs
+    go : (b : Bool) → test x ≡ b → total f (filter test xs) ≡ total (λ x. where_true (test x) (f x)) xs
+        → total f (filter test (x ∷ xs)) ≡ where_true (test x) (f x) + total (λ x. where_true (test x) (f x)) xs
     go true e i = rw (filter, e) (ap (λ n. f x + n) i)
     go false e i = rw (filter, e) (i ∙ omega arith)
 
@@ -145,7 +151,8 @@ abbrev pub counted : ℕ → Tree → ℕ → ℕ → ℕ
 counted d Done b k = 0
 counted d (Plain s r) b k = where_true (b == d) (vertices_of s.verb) + counted d r b k
 counted d (Branch s y t n e r) b k =
-    where_true (b == d) 1 + (counted d y k (suc k) + (counted d n (suc k + opened (shape y)) (suc (suc k + opened (shape y))) + counted d r b (suc (suc k + opened (shape y)) + opened (shape n))))
+    where_true (b == d) 1 + (counted d y k (suc k) + (counted d n (suc k + opened (shape y)) (suc (suc k + opened (shape y))) + counted d r b
+    (suc (suc k + opened (shape y)) + opened (shape n))))
 
 vertices-made : (v : Verb) (x y z n : ℕ) → is_plain_verb v ≡ true → (elim (is_split (kind_made v x y z n)) [ true ↦ 2 | false ↦ 1 ]) ≡ vertices_of v
 vertices-made verb.Code x y z n e = absurd (true≢false (sym e))
@@ -158,7 +165,8 @@ vertices-made v x y z n e = refl
 abbrev added : Code → ℕ → ℕ → ℕ
 added c d x = where_true (block_at c x == d) (vertices_at c x)
 
-pub tree-counted : (c : Code) (q : Known) (d : ℕ) (t : Tree) (b x k : ℕ) → Fits t → Holds c q t b x k → total (λ x. where_true (block_at c x == d) (vertices_at c x)) (in_row x (size (shape t))) ≡ counted d t b k
+pub tree-counted : (c : Code) (q : Known) (d : ℕ) (t : Tree) (b x k : ℕ) → Fits t → Holds c q t b x k
+    → total (λ x. where_true (block_at c x == d) (vertices_at c x)) (in_row x (size (shape t))) ≡ counted d t b k
 tree-counted c q d Done b x k f h = refl
 tree-counted c q d (Plain s r) b x k f h =
     let block : block_at c x ≡ b = ap or_block h.0 in
@@ -173,7 +181,8 @@ tree-counted c q d (Branch s y t n e r) b x k f h =
     let v = suc x + size (shape y) + size (shape n) in
     let block : block_at c x ≡ b = ap or_block h.0 in
     let many : vertices_at c x ≡ 1 = ap (λ o. elim (is_split (or_kind o)) [ true ↦ 2 | false ↦ 1 ]) h.0 in
-    let split = total-split g (suc x) (size (shape y)) (size (shape n) + size (shape r)) ∙ ap (λ z. total g (in_row (suc x) (size (shape y))) + z) (total-split g u (size (shape n)) (size (shape r))) in
+    let split = total-split g (suc x) (size (shape y)) (size (shape n) + size (shape r))
+    ∙ ap (λ z. total g (in_row (suc x) (size (shape y))) + z) (total-split g u (size (shape n)) (size (shape r))) in
     ap₂ (λ a w. where_true (a == d) w + total g (in_row (suc x) (size (shape y) + (size (shape n) + size (shape r))))) block many
     ∙ ap (λ z. where_true (b == d) 1 + z) (split ∙ ap₂ (λ a z. a + z) (tree-counted c q d y k (suc x) (suc k) f.1 h.1)
     (ap₂ (λ a z. a + z) (tree-counted c q d n j u (suc j) f.3 h.2) (tree-counted c q d r b v m f.5 h.3)))
@@ -220,22 +229,25 @@ inner-few d (Branch s y t n e r) b k h v lt bound lo hi =
     let m = suc j + opened (shape n) in
     let no_b : (b == d) ≡ false = differs-number b d (λ e. omega arith) in
     let in_y : d < j → counted d y k (suc k) ≤ 128 =
-    λ p. ⊎_elim (λ (z : d < suc k). let is : k ≡ d = omega arith in subst (λ w. counted w y k (suc k) ≤ 128) is (let i = own-few k y (suc k) (suc h) 0 (omega arith) (omega arith) bound.2 in omega arith))
+    λ p. ⊎_elim (λ (z : d < suc k). let is : k ≡ d = omega arith in subst (λ w. counted w y k (suc k) ≤ 128) is
+    (let i = own-few k y (suc k) (suc h) 0 (omega arith) (omega arith) bound.2 in omega arith))
     (λ (z : suc k ≤ d). inner-few d y k (suc k) (suc h) 0 (omega arith) bound.2 z p) (cases_lt d (suc k)) in
     let in_n : j ≤ d → d < m → counted d n j (suc j) ≤ 128 =
-    λ p o. ⊎_elim (λ (z : d < suc j). let is : j ≡ d = omega arith in subst (λ w. counted w n j (suc j) ≤ 128) is (let i = own-few j n (suc j) (suc h) 0 (omega arith) (omega arith) bound.3 in omega arith))
+    λ p o. ⊎_elim (λ (z : d < suc j). let is : j ≡ d = omega arith in subst (λ w. counted w n j (suc j) ≤ 128) is
+    (let i = own-few j n (suc j) (suc h) 0 (omega arith) (omega arith) bound.3 in omega arith))
     (λ (z : suc j ≤ d). inner-few d n j (suc j) (suc h) 0 (omega arith) bound.3 z o) (cases_lt d (suc j)) in
     let off_y : j ≤ d → counted d y k (suc k) ≡ 0 = λ p. elsewhere d y k (suc k) (differs-number k d (λ e. omega arith)) (inr (omega arith)) in
     let off_n : (d < j) ⊎ (m ≤ d) → counted d n j (suc j) ≡ 0 =
-    λ p. elsewhere d n j (suc j) (differs-number j d (λ e. ⊎_elim (λ w. omega arith) (λ w. omega arith) p)) (⊎_elim (λ w. inl (omega arith)) (λ w. inr (omega arith)) p) in
+    λ p. elsewhere d n j (suc j) (differs-number j d (λ e. ⊎_elim (λ w. omega arith) (λ w. omega arith) p))
+    (⊎_elim (λ w. inl (omega arith)) (λ w. inr (omega arith)) p) in
     let off_r : d < m → counted d r b m ≡ 0 = λ p. elsewhere d r b m no_b (inl p) in
     rw (counted, no_b)
     (⊎_elim
     (λ (p : d < j). let a = in_y p in let z = off_n (inl p) in let w = off_r (omega arith) in omega arith)
     (λ (p : j ≤ d). ⊎_elim
-      (λ (o : d < m). let a = off_y p in let z = in_n p o in let w = off_r o in omega arith)
-      (λ (o : m ≤ d). let a = off_y p in let z = off_n (inr o) in let w = inner-few d r b m h (1 + v) (omega arith) bound.4 o (omega arith) in omega arith)
-      (cases_lt d m))
+    (λ (o : d < m). let a = off_y p in let z = in_n p o in let w = off_r o in omega arith)
+    (λ (o : m ≤ d). let a = off_y p in let z = off_n (inr o) in let w = inner-few d r b m h (1 + v) (omega arith) bound.4 o (omega arith) in omega arith)
+    (cases_lt d m))
     (cases_lt d j))
 
 -- block 0 too
@@ -255,7 +267,8 @@ total-once : (b v n m : ℕ) → total (λ d. where_true (b == d) v) (in_row n m
 total-once b v n zero = omega arith
 total-once b v n (suc m) = go (b == n) refl (total-once b v (suc n) m)
   where
-    go : (t : Bool) → (b == n) ≡ t → total (λ d. where_true (b == d) v) (in_row (suc n) m) ≤ v → where_true (b == n) v + total (λ d. where_true (b == d) v) (in_row (suc n) m) ≤ v
+    go : (t : Bool) → (b == n) ≡ t → total (λ d. where_true (b == d) v) (in_row (suc n) m) ≤ v
+        → where_true (b == n) v + total (λ d. where_true (b == d) v) (in_row (suc n) m) ≤ v
     go false e i = rw e (omega (arith, i))
     go true e i = let is : b ≡ n = number-eq b n e in let z = total-none b v (suc n) m (omega arith) in rw e (omega (arith, z))
 
@@ -320,7 +333,8 @@ module _ (q : Known) (t : Tree) (c : Code) (of : IsOfTree q t c) (bound : Bounde
   code-small few =
       let s : sum_by (number_of_vertices c) (blocks_of c) ≡ total (number_of_vertices c) (in_row 0 (length c.owners)) =
       total-sum (number_of_vertices c) (blocks_of c) ∙ ap (total (number_of_vertices c)) (below-row (length c.owners)) in
-      let same : total (number_of_vertices c) (in_row 0 (length c.owners)) ≡ total (λ d. counted d t 0 1) (in_row 0 (length c.owners)) = alike (in_row 0 (length c.owners)) in
+      let same : total (number_of_vertices c) (in_row 0 (length c.owners))
+      ≡ total (λ d. counted d t 0 1) (in_row 0 (length c.owners)) = alike (in_row 0 (length c.owners)) in
       let most = blocks-few (length c.owners) t 0 1 of.fits in
       below-test (sum_by (number_of_vertices c) (blocks_of c)) 1025 (omega (arith, s, same, most))
     where

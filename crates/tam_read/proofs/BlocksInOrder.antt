@@ -1,5 +1,6 @@
 -- The blocks of a code with the nodes of a tree of lines open in order, each by its cond.
-use Rattle.std.proofs.Common.{◌≡◌, ℕ, zero, suc, ◌+◌, ◌≤◌, Bool, true, false, List, [], ◌∷◌, ◌++◌, length, map, flat_map, zip, Option, Some, None, refl, sym, ap, ap₂, subst, ◌∙◌, append_assoc, arith}
+use Rattle.std.proofs.Common.{◌≡◌, ℕ, zero, suc, ◌+◌, ◌≤◌, Bool, true, false, List, [], ◌∷◌, ◌++◌, length, map, flat_map, zip, Option, Some, None, refl, sym}
+use Rattle.std.proofs.Common.{ap, ap₂, subst, ◌∙◌, append_assoc, arith}
 use Rattle.std.specs.Prelude.{slice_get}
 use Rattle.std.proofs.lemmas.List.{append-nil, length-append}
 use Rattle.std.proofs.lemmas.List.Concat.{flat_map-cons, flat_map-append}
@@ -35,11 +36,13 @@ plain-opens x k e = refl
 plain-opened : (c : Code) (x : ℕ) → is_plain (kind_at c x) ≡ true → opened_by c (AtNode x) ≡ []
 plain-opened c x e = plain-opens x (kind_at c x) e
 
-cond-opened : (c : Code) (x p y n : ℕ) → kind_at c x ≡ kind.Cond p y n → (opened_by c (AtNode x) ≡ (y, Some x) ∷ []) × (opened_by c (AtElse x) ≡ (n, Some x) ∷ [])
+cond-opened : (c : Code) (x p y n : ℕ) → kind_at c x ≡ kind.Cond p y n → (opened_by c (AtNode x) ≡ (y, Some x) ∷ [])
+    × (opened_by c (AtElse x) ≡ (n, Some x) ∷ [])
 cond-opened c x p y n e = (rw (opened_by, e) refl, rw (opened_by, e) refl)
 
 -- the blocks that a tree's lines open
-pub blocks-in-row : (c : Code) (q : Known) (t : Tree) (b x k : ℕ) → Fits t → Holds c q t b x k → flat_map (opened_by c) (visits_of (shape t) x) ≡ zip (in_row k (opened (shape t))) (tree_owners t x)
+pub blocks-in-row : (c : Code) (q : Known) (t : Tree) (b x k : ℕ) → Fits t → Holds c q t b x k
+    → flat_map (opened_by c) (visits_of (shape t) x) ≡ zip (in_row k (opened (shape t))) (tree_owners t x)
 blocks-in-row c q Done b x k f h = refl
 blocks-in-row c q (Plain s r) b x k f h =
     flat_map-cons (opened_by c) (AtNode x) (visits_of (shape r) (suc x))
@@ -59,16 +62,20 @@ blocks-in-row c q (Branch s y t n e r) b x k f h =
     let behind = vn ++ AtEnd x ∷ [] in
     let ends : flat_map (opened_by c) (AtEnd x ∷ []) ≡ [] = flat_map-cons (opened_by c) (AtEnd x) [] in
     let other : flat_map (opened_by c) behind ≡ zip (in_row (suc j) (opened (shape n))) on =
-    flat_map-append (opened_by c) vn (AtEnd x ∷ []) ∙ ap₂ (λ a d. a ++ d) (blocks-in-row c q n j u (suc j) f.3 h.2) ends ∙ append-nil (zip (in_row (suc j) (opened (shape n))) on) in
+    flat_map-append (opened_by c) vn (AtEnd x ∷ []) ∙ ap₂ (λ a d. a ++ d) (blocks-in-row c q n j u (suc j) f.3 h.2) ends
+    ∙ append-nil (zip (in_row (suc j) (opened (shape n))) on) in
     let turn : flat_map (opened_by c) (AtElse x ∷ behind) ≡ (j, Some x) ∷ zip (in_row (suc j) (opened (shape n))) on =
     flat_map-cons (opened_by c) (AtElse x) behind ∙ ap₂ (λ a d. a ++ d) opens.1 other in
-    let middle : flat_map (opened_by c) (vy ++ (AtElse x ∷ behind)) ≡ zip (in_row (suc k) (opened (shape y))) oy ++ ((j, Some x) ∷ zip (in_row (suc j) (opened (shape n))) on) =
+    let middle : flat_map (opened_by c) (vy ++ (AtElse x ∷ behind)) ≡ zip (in_row (suc k) (opened (shape y))) oy ++
+    ((j, Some x) ∷ zip (in_row (suc j) (opened (shape n))) on) =
     flat_map-append (opened_by c) vy (AtElse x ∷ behind) ∙ ap₂ (λ a d. a ++ d) (blocks-in-row c q y k (suc x) (suc k) f.1 h.1) turn in
-    let tail : zip (in_row j (suc (opened (shape n) + opened (shape r)))) (Some x ∷ (on ++ or)) ≡ (j, Some x) ∷ (zip (in_row (suc j) (opened (shape n))) on ++ zip (in_row l (opened (shape r))) or) =
+    let tail : zip (in_row j (suc (opened (shape n) + opened (shape r)))) (Some x ∷ (on ++ or))
+    ≡ (j, Some x) ∷ (zip (in_row (suc j) (opened (shape n))) on ++ zip (in_row l (opened (shape r))) or) =
     ap (λ d. (j, Some x) ∷ d) (zip-row (suc j) (opened (shape n)) (opened (shape r)) on or (length-tree_owners n u)) in
     flat_map-cons (opened_by c) (AtNode x) ((vy ++ (AtElse x ∷ behind)) ++ vr)
     ∙ ap₂ (λ a d. a ++ d) opens.0 (flat_map-append (opened_by c) (vy ++ (AtElse x ∷ behind)) vr ∙ ap₂ (λ a d. a ++ d) middle (blocks-in-row c q r b v l f.5 h.3)
-    ∙ append_assoc (zip (in_row (suc k) (opened (shape y))) oy) ((j, Some x) ∷ zip (in_row (suc j) (opened (shape n))) on) (zip (in_row l (opened (shape r))) or)
+    ∙ append_assoc (zip (in_row (suc k) (opened (shape y))) oy) ((j, Some x) ∷ zip (in_row (suc j) (opened (shape n))) on)
+    (zip (in_row l (opened (shape r))) or)
     ∙ ap (λ d. zip (in_row (suc k) (opened (shape y))) oy ++ d) (sym tail)
     ∙ sym (zip-row (suc k) (opened (shape y)) (suc (opened (shape n) + opened (shape r))) oy (Some x ∷ (on ++ or)) (length-tree_owners y (suc x))))
 
@@ -95,7 +102,8 @@ module _ (q : Known) (t : Tree) (c : Code) (of : IsOfTree q t c) where
   visited-so =
       let bound : opened (shape t) ≤ opened (shape t) = omega arith in
       ap (λ f. visits f c 0) few-blocks
-      ∙ visits-is (opened (shape t)) c (shape t) (agrees q c t 0 0 1 of.fits stands) few-nodes bound (λ z h. past_end c.nodes z (let l = few-nodes in omega arith))
+      ∙ visits-is (opened (shape t)) c (shape t) (agrees q c t 0 0 1 of.fits stands) few-nodes bound
+      (λ z h. past_end c.nodes z (let l = few-nodes in omega arith))
 
   pub nodes-ordered : in_file_order (length c.owners) c 0 ≡ node_numbers c
   nodes-ordered = ap (flat_map node_visited) visited-so ∙ nodes-in-row (shape t) 0 ∙ sym (below-row (length c.nodes) ∙ ap (in_row 0) few-nodes)

@@ -25,22 +25,28 @@ first-cause f c (d ∷ cs) e = let same : c ≡ d = cc in ap (λ z. f z ∷ []) 
 
 module _ (k : Known) (line : Line) (rest others : List Line) (parts : rest ≡ line ∷ others) where
   -- what is built goes on
-  pub built-on : (old new total : Built) → built k old (sayings_of rest) ≡ total → new ≡ built_behind k old (saying line) → built k new (sayings_of others) ≡ total
+  pub built-on : (old new total : Built) → built k old (sayings_of rest) ≡ total → new ≡ built_behind k old (saying line)
+      → built k new (sayings_of others) ≡ total
   built-on old new total h e = ap (λ b. built k b (sayings_of others)) e ∙ (ap (λ r. built k old (sayings_of r)) (sym parts) ∙ h)
 
   -- and so do the faults, where the line has none
-  pub faults-on : (total : List (ℕ × ReadCause)) → faults_within k (map numbered rest) ≡ total → faults_known k (saying line) ≡ [] → faults_within k (map numbered others) ≡ total
-  faults-on total h e = sym (ap (λ r. faults_within k (map numbered r)) parts ∙ ap (λ cs. map (λ c. (line.number, c)) cs ++ faults_within k (map numbered others)) e) ∙ h
+  pub faults-on : (total : List (ℕ × ReadCause)) → faults_within k (map numbered rest) ≡ total → faults_known k (saying line) ≡ []
+      → faults_within k (map numbered others) ≡ total
+  faults-on total h e = sym (ap (λ r. faults_within k (map numbered r)) parts
+      ∙ ap (λ cs. map (λ c. (line.number, c)) cs ++ faults_within k (map numbered others)) e) ∙ h
 
   -- a line's refusal is that of the lines
-  pub refused-here : (total : List (ℕ × ReadCause)) (e : Refused) → faults_within k (map numbered rest) ≡ total → IsFirst (map (λ c. (line.number, c)) (faults_known k (saying line))) e → IsFirst total e
+  pub refused-here : (total : List (ℕ × ReadCause)) (e : Refused) → faults_within k (map numbered rest) ≡ total
+      → IsFirst (map (λ c. (line.number, c)) (faults_known k (saying line))) e → IsFirst total e
   refused-here total e h first =
       subst (λ fs. IsFirst fs e) (ap (λ r. faults_within k (map numbered r)) (sym parts) ∙ h)
       (first-before (map (λ c. (line.number, c)) (faults_known k (saying line))) (faults_within k (map numbered others)) e first)
 
   -- at most one node and one block were built
-  pub nodes-on : (old new : Built) (most : ℕ) → length old.nodes + length rest ≤ most → new ≡ built_behind k old (saying line) → length new.nodes + length others ≤ most
+  pub nodes-on : (old new : Built) (most : ℕ) → length old.nodes + length rest ≤ most → new ≡ built_behind k old (saying line)
+      → length new.nodes + length others ≤ most
   nodes-on old new most h e = omega (arith, ap (λ b. length b.nodes) e, few-nodes k old (saying line) line.verb, ap length parts)
 
-  pub owners-on : (old new : Built) (most : ℕ) → length old.owners + length rest ≤ most → new ≡ built_behind k old (saying line) → length new.owners + length others ≤ most
+  pub owners-on : (old new : Built) (most : ℕ) → length old.owners + length rest ≤ most → new ≡ built_behind k old (saying line)
+      → length new.owners + length others ≤ most
   owners-on old new most h e = omega (arith, ap (λ b. length b.owners) e, few-owners k old (saying line) line.verb, ap length parts)

@@ -1,5 +1,6 @@
 -- Clean lines keep the limits: the vertices of each block, and how deep conds stand in one another.
-use Rattle.std.proofs.Common.{◌≡◌, ℕ, zero, suc, ◌+◌, ◌<◌, ◌≤◌, Bool, true, false, not, ◌&&◌, nat_lt, List, [], ◌∷◌, ◌++◌, length, map, flat_map, refl, sym, ap, ap₂, subst, ◌∙◌, true≢false, append_assoc, arith, inl, inr, ◌⊎◌, ⊎_elim}
+use Rattle.std.proofs.Common.{◌≡◌, ℕ, zero, suc, ◌+◌, ◌<◌, ◌≤◌, Bool, true, false, not, ◌&&◌, nat_lt, List, [], ◌∷◌, ◌++◌, length, map, flat_map, refl, sym}
+use Rattle.std.proofs.Common.{ap, ap₂, subst, ◌∙◌, true≢false, append_assoc, arith, inl, inr, ◌⊎◌, ⊎_elim}
 use Rattle.std.specs.List.{filter}
 use Rattle.std.proofs.lemmas.Bool.{ltb-false}
 use Rattle.tam_word.proofs.Members.{In, filter-in, map-none, left-in, right-in}
@@ -35,7 +36,8 @@ in-limits BlockVertices = inr (inr (inl refl))
 in-limits Nesting = inr (inr (inr (inl refl)))
 
 pub limit-kept : (before : List Sentence) (s : Sentence) (l : Limit) → faults_of_sentence before s ≡ [] → passes before s l ≡ false
-limit-kept before s l e = none-passes (passes before s) (Codes ∷ CodeVertices ∷ BlockVertices ∷ Nesting ∷ []) l (map-none TooMany _ (clean-parts before s e).within) (in-limits l)
+limit-kept before s l e = none-passes (passes before s) (Codes ∷ CodeVertices ∷ BlockVertices ∷ Nesting ∷ []) l
+    (map-none TooMany _ (clean-parts before s e).within) (in-limits l)
 
 -- where the first holds, the second fails
 second-fails : (t u : Bool) → t ≡ true → (t && u) ≡ false → u ≡ false
@@ -76,7 +78,8 @@ pub record IsBounded (t : Tree) (before : List Sentence) (o : Open) (os : List O
   pub bounded : Bounded t (length os) (vertices o.own)
   pub clean : AreClean (put_before before (flat t)) rest
 
-plain-open : (s : Sentence) (v : Verb) (o : Open) (os : List Open) → is_plain_verb v ≡ true → open_behind s v (o ∷ os) ≡ record { opening = o.opening; own = s ∷ o.own } ∷ os
+plain-open : (s : Sentence) (v : Verb) (o : Open) (os : List Open) → is_plain_verb v ≡ true
+    → open_behind s v (o ∷ os) ≡ record { opening = o.opening; own = s ∷ o.own } ∷ os
 plain-open s verb.Code o os e = absurd cc
 plain-open s verb.Cond o os e = absurd cc
 plain-open s verb.Else o os e = absurd cc
@@ -87,25 +90,30 @@ plain-open s v o os e = refl
 abbrev owned : Sentence → Open → Open
 owned s o = record { opening = o.opening; own = s ∷ o.own }
 
-within-block : (before : List Sentence) (s : Sentence) (o : Open) (os : List Open) → faults_of_sentence before s ≡ [] → open_after before ≡ o ∷ os → nat_lt 0 (vertices_of s.verb) ≡ true → vertices_of s.verb + vertices o.own ≤ 128
+within-block : (before : List Sentence) (s : Sentence) (o : Open) (os : List Open) → faults_of_sentence before s ≡ [] → open_after before ≡ o ∷ os
+    → nat_lt 0 (vertices_of s.verb) ≡ true → vertices_of s.verb + vertices o.own ≤ 128
 within-block before s o os c e some =
     let h : nat_lt 128 (vertices_of s.verb + vertices o.own) ≡ false =
     second-fails (nat_lt 0 (vertices_of s.verb)) (nat_lt 128 (vertices_of s.verb + vertices o.own)) some (rw e at (limit-kept before s BlockVertices c)) in
     ltb-false 128 (vertices_of s.verb + vertices o.own) h
 
-within-nesting : (before : List Sentence) (s : Sentence) (o : Open) (os : List Open) → faults_of_sentence before s ≡ [] → open_after before ≡ o ∷ os → s.verb ≡ verb.Cond → suc (length os) ≤ 16
+within-nesting : (before : List Sentence) (s : Sentence) (o : Open) (os : List Open) → faults_of_sentence before s ≡ [] → open_after before ≡ o ∷ os
+    → s.verb ≡ verb.Cond → suc (length os) ≤ 16
 within-nesting before s o os c e is =
-    let h : nat_lt 16 (suc (length os)) ≡ false = second-fails (is_cond s.verb) (nat_lt 16 (suc (length os))) (ap is_cond is) (rw e at (limit-kept before s Nesting c)) in
+    let h : nat_lt 16 (suc (length os)) ≡ false = second-fails (is_cond s.verb) (nat_lt 16 (suc (length os))) (ap is_cond is)
+    (rw e at (limit-kept before s Nesting c)) in
     ltb-false 16 (suc (length os)) h
 
-pub tree-bounded : (t : Tree) → Fits t → (before : List Sentence) (o : Open) (os : List Open) (rest : List Sentence) → open_after before ≡ o ∷ os → AreClean before (flat t ++ rest) → IsBounded t before o os rest
+pub tree-bounded : (t : Tree) → Fits t → (before : List Sentence) (o : Open) (os : List Open) (rest : List Sentence) → open_after before ≡ o ∷ os
+    → AreClean before (flat t ++ rest) → IsBounded t before o os rest
 tree-bounded Done f before o os rest e c = record { last = o; opens = e; own = refl; bounded = tt; clean = c }
 tree-bounded (Plain s r) f before o os rest e c =
     let next : open_after (s ∷ before) ≡ owned s o ∷ os = ap (open_behind s s.verb) e ∙ plain-open s s.verb o os f.0 in
     let i = tree-bounded r f.1 (s ∷ before) (owned s o) os rest next c.1 in
     record { last = i.last; opens = i.opens; own = i.own; bounded = (within-block before s o os c.0 e (plain-some s.verb f.0), i.bounded); clean = i.clean }
 tree-bounded (Branch s y t n e r) f before o os rest is c =
-    let parts : AreClean before (s ∷ (flat y ++ (t ∷ (flat n ++ (e ∷ (flat r ++ rest)))))) = subst (λ ss. AreClean before ss) (flat-branch s y t n e r rest) c in
+    let parts : AreClean before (s ∷ (flat y ++ (t ∷ (flat n ++ (e ∷ (flat r ++ rest)))))) = subst (λ ss. AreClean before ss)
+    (flat-branch s y t n e r rest) c in
     let one : vertices_of s.verb ≡ 1 = ap vertices_of f.0 in
     let some : nat_lt 0 (vertices_of s.verb) ≡ true = ap (λ v. nat_lt 0 v) one in
     let here = within-block before s o os parts.0 is some in
@@ -115,18 +123,27 @@ tree-bounded (Branch s y t n e r) f before o os rest is c =
     let iy = tree-bounded y f.1 b1 (opened ByCond) (owned s o ∷ os) (t ∷ (flat n ++ (e ∷ (flat r ++ rest)))) open1 parts.1 in
     let b2 = put_before b1 (flat y) in
     let b3 = t ∷ b2 in
-    let open3 : open_after b3 ≡ opened ByElse ∷ owned s o ∷ os = ap (open_behind t t.verb) iy.opens ∙ ap (λ v. open_behind t v (iy.last ∷ owned s o ∷ os)) f.2 in
+    let open3 : open_after b3 ≡ opened ByElse ∷ owned s o ∷ os = ap (open_behind t t.verb) iy.opens
+    ∙ ap (λ v. open_behind t v (iy.last ∷ owned s o ∷ os)) f.2 in
     let jn = tree-bounded n f.3 b3 (opened ByElse) (owned s o ∷ os) (e ∷ (flat r ++ rest)) open3 iy.clean.1 in
     let b4 = put_before b3 (flat n) in
     let b5 = e ∷ b4 in
     let open5 : open_after b5 ≡ owned s o ∷ os = ap (open_behind e e.verb) jn.opens ∙ ap (λ v. open_behind e v (jn.last ∷ owned s o ∷ os)) f.4 in
     let kr = tree-bounded r f.5 b5 (owned s o) os rest open5 jn.clean.1 in
-    let whole : put_before before (flat (Branch s y t n e r)) ≡ put_before b5 (flat r) = put-both b1 (flat y) (t ∷ (flat n ++ (e ∷ flat r))) ∙ put-both b3 (flat n) (e ∷ flat r) in
+    let whole : put_before before (flat (Branch s y t n e r)) ≡ put_before b5 (flat r) = put-both b1 (flat y) (t ∷ (flat n ++ (e ∷ flat r)))
+    ∙ put-both b3 (flat n) (e ∷ flat r) in
     record {
       last = kr.last;
       opens = ap open_after whole ∙ kr.opens;
       own = kr.own ∙ ap (own_after r) own_next;
-      bounded = (omega (arith, here, one), within-nesting before s o os parts.0 is f.0, iy.bounded, jn.bounded, subst (λ v. Bounded r (length os) v) own_next kr.bounded);
+      bounded = (
+        omega (arith, here, one),
+        within-nesting before s o os parts.0 is f.0,
+        iy.bounded,
+        jn.bounded,
+        subst
+            (λ v. Bounded r (length os) v) own_next kr.bounded,
+      );
       clean = subst (λ b. AreClean b rest) (sym whole) kr.clean;
     }
 
@@ -150,22 +167,26 @@ code-bounded d k =
     (subst (λ ss. AreClean (d.head ∷ k.before) ss) parts k.clean.1)
 
 -- each code of clean lines is such a one
-pub codes-clean : (before : List Sentence) (ds : List CodeLines) → open_after before ≡ [] → AreClean before (lines_of_codes ds) → (d : CodeLines) → In d ds → IsCleanCode d
+pub codes-clean : (before : List Sentence) (ds : List CodeLines) → open_after before ≡ [] → AreClean before (lines_of_codes ds) → (d : CodeLines) → In d ds
+    → IsCleanCode d
 codes-clean before [] e c d i = absurd i
 codes-clean before (a ∷ ds) e c d i =
     let k : IsCleanCode a = record { before = before; closed = e; rest = lines_of_codes ds; clean = c } in
     let b = code-bounded a k in
     let ends : open_after (a.close ∷ put_before (a.head ∷ before) (flat a.body)) ≡ [] =
     ap (open_behind a.close a.close.verb) b.opens ∙ ap (λ v. open_behind a.close v (b.last ∷ [])) a.closes in
-    let whole : put_before before (lines_of_code a) ≡ a.close ∷ put_before (a.head ∷ before) (flat a.body) = put-both (a.head ∷ before) (flat a.body) (a.close ∷ []) in
+    let whole : put_before before (lines_of_code a) ≡ a.close ∷ put_before (a.head ∷ before) (flat a.body) = put-both (a.head ∷ before) (flat a.body)
+    (a.close ∷ []) in
     ⊎_elim (λ same. subst (λ z. IsCleanCode z) same k)
-    (λ later. codes-clean (put_before before (lines_of_code a)) ds (ap open_after whole ∙ ends) (clean-back before (lines_of_code a) (lines_of_codes ds) c) d later)
+    (λ later. codes-clean (put_before before (lines_of_code a)) ds (ap open_after whole ∙ ends)
+    (clean-back before (lines_of_code a) (lines_of_codes ds) c) d later)
     i
 
 -- ---- the vertices of a code
 
 -- the vertices behind lines of a code
-few-vertices : (before ss : List Sentence) → AreClean before ss → NoCode ss → vertices (until_code before) ≤ 1024 → vertices ss + vertices (until_code before) ≤ 1024
+few-vertices : (before ss : List Sentence) → AreClean before ss → NoCode ss → vertices (until_code before) ≤ 1024
+    → vertices ss + vertices (until_code before) ≤ 1024
 few-vertices before [] c none h = omega arith
 few-vertices before (s ∷ ss) c none h =
     let next : until_code (s ∷ before) ≡ s ∷ until_code before = rw (until_code, none.0) refl in
@@ -175,7 +196,9 @@ few-vertices before (s ∷ ss) c none h =
   where
     go : (b : Bool) → nat_lt 0 (vertices_of s.verb) ≡ b → vertices_of s.verb + vertices (until_code before) ≤ 1024
     go false p = let zero_v : vertices_of s.verb ≤ 0 = ltb-false 0 (vertices_of s.verb) p in omega arith
-    go true p = ltb-false 1024 (vertices_of s.verb + vertices (until_code before)) (second-fails (nat_lt 0 (vertices_of s.verb)) (nat_lt 1024 (vertices_of s.verb + vertices (until_code before))) p (limit-kept before s CodeVertices c.0))
+    go true p = ltb-false 1024 (vertices_of s.verb + vertices (until_code before))
+        (second-fails (nat_lt 0 (vertices_of s.verb)) (nat_lt 1024 (vertices_of s.verb + vertices (until_code before))) p
+        (limit-kept before s CodeVertices c.0))
 
 -- a code has at most 1,024
 pub code-vertices : (d : CodeLines) → IsCleanCode d → vertices (body_lines d) ≤ 1024

@@ -23,12 +23,15 @@ skip test true x xs e = absurd cc
 skip test false x xs e = refl
 
 -- what doesn't pass is left out
-pub first_of-skip : {X : Type 0} (test : X → Bool) (xs : List X) (i : ℕ) (d : X) → i < length xs → test (get_or xs i d) ≡ false → first_of test (drop (i + 1) xs) ≡ first_of test (drop i xs)
+pub first_of-skip : {X : Type 0} (test : X → Bool) (xs : List X) (i : ℕ) (d : X) → i < length xs → test (get_or xs i d) ≡ false
+    → first_of test (drop (i + 1) xs) ≡ first_of test (drop i xs)
 first_of-skip test xs i d lt fails = rw (add-one i, drop-cons xs i d lt) (sym (skip test (test (get_or xs i d)) (get_or xs i d) (drop (suc i) xs) fails))
 
 -- a verb that the token doesn't write
 pub another_verb : (token text : List ℕ) (i : ℕ) (d : Verb) → i < length VERBS → text ≡ verb_text (get_or VERBS i d) → bytes_eq token text ≡ false
-    → first_of (λ v. same_bytes token (verb_text v)) (drop i VERBS) ≡ verb_called token → first_of (λ v. same_bytes token (verb_text v)) (drop (i + 1) VERBS) ≡ verb_called token
+    → first_of (λ v. same_bytes token (verb_text v)) (drop i VERBS) ≡ verb_called token
+    → first_of (λ v. same_bytes token (verb_text v)) (drop (i + 1) VERBS) ≡ verb_called token
 another_verb token text i d lt is fails h =
-    let e : same_bytes token (verb_text (get_or VERBS i d)) ≡ false = same_bytes_is token (verb_text (get_or VERBS i d)) ∙ ap (bytes_eq token) (sym is) ∙ fails in
+    let e : same_bytes token (verb_text (get_or VERBS i d)) ≡ false = same_bytes_is token (verb_text (get_or VERBS i d)) ∙ ap (bytes_eq token) (sym is)
+    ∙ fails in
     first_of-skip (λ v. same_bytes token (verb_text v)) VERBS i d lt e ∙ h

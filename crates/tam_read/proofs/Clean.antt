@@ -1,5 +1,6 @@
 -- A text without a fault of the first pass: none of its sentences has one.
-use Rattle.std.proofs.Common.{◌≡◌, ℕ, ◌+◌, ◌≤◌, Bool, true, false, not, List, [], ◌∷◌, ◌++◌, length, map, flat_map, refl, sym, ap, subst, ◌∙◌, inl, inr, ◌⊎◌, ⊎_elim, true≢false, arith}
+use Rattle.std.proofs.Common.{◌≡◌, ℕ, ◌+◌, ◌≤◌, Bool, true, false, not, List, [], ◌∷◌, ◌++◌, length, map, flat_map, refl, sym, ap, subst, ◌∙◌, inl, inr, ◌⊎◌}
+use Rattle.std.proofs.Common.{⊎_elim, true≢false, arith}
 use Rattle.std.specs.List.{filter}
 use Rattle.std.proofs.lemmas.List.Concat.{flat_map-cons}
 use Rattle.tam_word.specs.Lists.{where_so, any_of, same_bytes}
@@ -10,7 +11,8 @@ use Rattle.tam_read.specs.declared.cause.ReadCause.{ReadCause}
 use Rattle.tam_read.specs.declared.cause.ReadCause.TheVariants.{BadByte, BadLine, BadName, BadNumber, BadNesting, TwiceNamed, TooMany}
 use Rattle.tam_read.specs.declared.cause.Limit.TheVariants.{Codes, CodeVertices, BlockVertices, Nesting}
 use Rattle.tam_read.specs.Sentences.{Sentence, sentence_of, is_code, names_made, code_begun}
-use Rattle.tam_read.specs.Faults.{open_after, until_code, said, is_head, is_out_of_place, has_bad_name, has_bad_number, is_named_again, passes, some_shared, faults_of_sentence, faults_of_words, faults_of_line, with_line, first_pass}
+use Rattle.tam_read.specs.Faults.{open_after, until_code, said, is_head, is_out_of_place, has_bad_name, has_bad_number, is_named_again, passes, some_shared}
+use Rattle.tam_read.specs.Faults.{faults_of_sentence, faults_of_words, faults_of_line, with_line, first_pass}
 use Rattle.tam_read.proofs.Passed.{one_sentence, head_says_nothing, no_bad_head}
 use Rattle.tam_read.proofs.Nothing.{where_none, neither}
 
@@ -19,7 +21,8 @@ abbrev pub AreClean : List Sentence → List Sentence → Type 0
 AreClean before [] = Unit {0}
 AreClean before (s ∷ ss) = (faults_of_sentence before s ≡ []) × AreClean (s ∷ before) ss
 
-clean-said : (before ss rest : List Sentence) → length ss ≤ 1 → (elim ss as (λ _. List ReadCause) [ [] ↦ BadLine ∷ [] | s ∷ more ↦ faults_of_sentence before s ]) ≡ []
+clean-said : (before ss rest : List Sentence) → length ss ≤ 1 → (elim ss as
+    (λ _. List ReadCause) [ [] ↦ BadLine ∷ [] | s ∷ more ↦ faults_of_sentence before s ]) ≡ []
     → AreClean (ss ++ before) rest → AreClean before (ss ++ rest)
 clean-said before [] rest one e h = absurd cc
 clean-said before (s ∷ []) rest one e h = (e, h)
@@ -37,13 +40,17 @@ clean-words (b ∷ before) (w ∷ ws) rest e h =
     (subst (λ (ss : List Sentence). AreClean ss rest) (flat_map-cons sentence_of (w ∷ ws) (b ∷ before)) h)
 
 -- so of a text without a fault of the first pass
-pub clean-lines : (last : ℕ) (before : List (List (List ℕ))) (n : ℕ) (lines : List (List ℕ)) → first_pass last before n lines ≡ [] → AreClean (said before) (said (map words_of lines))
+pub clean-lines : (last : ℕ) (before : List (List (List ℕ))) (n : ℕ) (lines : List (List ℕ)) → first_pass last before n lines ≡ []
+    → AreClean (said before) (said (map words_of lines))
 clean-lines last before n [] e = tt
 clean-lines last before n (line ∷ lines) e =
     let here = none-left (map (λ c. (n, c)) (faults_of_line before line)) (first_pass last (with_line line before) (n + 1) lines) e in
-    let words : faults_of_words before (words_of line) ≡ [] = none-right (where_so (not (are_good_bytes line)) BadByte) (faults_of_words before (words_of line)) (map-none (λ c. (n, c)) (faults_of_line before line) here) in
-    let later = clean-lines last (with_line line before) (n + 1) lines (none-right (map (λ c. (n, c)) (faults_of_line before line)) (first_pass last (with_line line before) (n + 1) lines) e) in
-    subst (λ (ss : List Sentence). AreClean (said before) ss) (sym (flat_map-cons sentence_of (words_of line) (map words_of lines))) (clean-words before (words_of line) (said (map words_of lines)) words later)
+    let words : faults_of_words before (words_of line) ≡ [] = none-right (where_so (not (are_good_bytes line)) BadByte)
+    (faults_of_words before (words_of line)) (map-none (λ c. (n, c)) (faults_of_line before line) here) in
+    let later = clean-lines last (with_line line before) (n + 1) lines (none-right (map (λ c. (n, c)) (faults_of_line before line))
+    (first_pass last (with_line line before) (n + 1) lines) e) in
+    subst (λ (ss : List Sentence). AreClean (said before) ss) (sym (flat_map-cons sentence_of (words_of line) (map words_of lines)))
+    (clean-words before (words_of line) (said (map words_of lines)) words later)
 
 -- ---- what a sentence without a fault has
 
@@ -104,7 +111,8 @@ later-apart before [] c none n p q = absurd p
 later-apart before (s ∷ ss) c none n p q =
     ⊎_elim (λ here. not-shared (names_made s) (flat_map names_made (until_code before)) (clean-parts before s c.0).new_node n here q)
     (λ later. later-apart (s ∷ before) ss c.1 none.1 n later
-    (subst (λ names. In n names) (sym (ap (flat_map names_made) (until-same s before none.0) ∙ flat_map-cons names_made s (until_code before))) (right-in n (names_made s) (flat_map names_made (until_code before)) q)))
+    (subst (λ names. In n names) (sym (ap (flat_map names_made) (until-same s before none.0) ∙ flat_map-cons names_made s (until_code before)))
+    (right-in n (names_made s) (flat_map names_made (until_code before)) q)))
     (in-append n (names_made s) (flat_map names_made ss) (subst (λ names. In n names) (flat_map-cons names_made s ss) p))
 
 -- so the names of a code's nodes differ
@@ -112,6 +120,7 @@ pub names-differ : (before ss : List Sentence) → AreClean before ss → NoCode
 names-differ before [] c none = tt
 names-differ before (s ∷ ss) c none = (
   λ n here later. later-apart (s ∷ before) ss c.1 none.1 n later
-      (subst (λ names. In n names) (sym (ap (flat_map names_made) (until-same s before none.0) ∙ flat_map-cons names_made s (until_code before))) (left-in n (names_made s) (flat_map names_made (until_code before)) here)),
+      (subst (λ names. In n names) (sym (ap (flat_map names_made) (until-same s before none.0) ∙ flat_map-cons names_made s (until_code before)))
+      (left-in n (names_made s) (flat_map names_made (until_code before)) here)),
   names-differ (s ∷ before) ss c.1 none.1,
 )

@@ -1,5 +1,6 @@
 -- The second pass goes code by code.
-use Rattle.std.proofs.Common.{◌≡◌, ℕ, zero, suc, ◌+◌, ◌≤◌, ◌<◌, Bool, true, false, List, [], ◌∷◌, ◌++◌, length, map, take, flat_map, refl, sym, ap, subst, ◌∙◌, true≢false, arith}
+use Rattle.std.proofs.Common.{◌≡◌, ℕ, zero, suc, ◌+◌, ◌≤◌, ◌<◌, Bool, true, false, List, [], ◌∷◌, ◌++◌, length, map, take, flat_map, refl, sym, ap, subst}
+use Rattle.std.proofs.Common.{◌∙◌, true≢false, arith}
 use Rattle.std.proofs.lemmas.List.{map-append}
 use Rattle.std.proofs.lemmas.List.Concat.{flat_map-cons}
 use Rattle.tam_word.specs.Lists.{any_of, same_bytes}
@@ -10,7 +11,8 @@ use Rattle.tam_read.specs.declared.form.Verb.TheVariants as verb
 use Rattle.tam_read.specs.declared.form.Role.{Role}
 use Rattle.tam_read.specs.declared.form.Role.TheVariants as role
 use Rattle.tam_read.specs.Sentences.{Sentence, sentence_of, is_code, code_begun}
-use Rattle.tam_read.specs.Faults.{until_code, is_out_of_place, makes_named, faults_of_names, sayings, said, said_from, second_pass, faults_of_second, first_pass, last_line, faults, first_fault}
+use Rattle.tam_read.specs.Faults.{until_code, is_out_of_place, makes_named, faults_of_names, sayings, said, said_from, second_pass, faults_of_second}
+use Rattle.tam_read.specs.Faults.{first_pass, last_line, faults, first_fault}
 use Rattle.tam_read.specs.Tables.{Entries, found, nodes_from, codes_from}
 use Rattle.tam_read.specs.Naming.{Known, is_made, faults_within}
 use Rattle.tam_read.specs.Parts.{Numbered, Piece, body_of, pieces, known_in, faults_of_pieces, codes_in}
@@ -95,9 +97,11 @@ clean-starts (s ∷ ss) c = at s.verb (clean-parts [] s c.0).place
     at verb.Code e = refl
     at v e = absurd (true≢false e)
 
-module _ (all : List Sentence) (codes : Entries) (agree : (t : List ℕ) → is_made role.Callee (found t codes) ≡ any_of (same_bytes t) (flat_map code_begun all)) where
+module _ (all : List Sentence) (codes : Entries) (agree : (t : List ℕ) → is_made role.Callee (found t codes)
+    ≡ any_of (same_bytes t) (flat_map code_begun all)) where
   -- code by code
-  pub by-codes : (n : ℕ) (before : List Sentence) (ns : Numbered) → length ns ≤ n → Starts (sayings ns) → AreClean before (sayings ns) → second_pass all before ns ≡ faults_of_pieces codes (pieces ns)
+  pub by-codes : (n : ℕ) (before : List Sentence) (ns : Numbered) → length ns ≤ n → Starts (sayings ns) → AreClean before (sayings ns)
+      → second_pass all before ns ≡ faults_of_pieces codes (pieces ns)
   by-codes n before [] few starts c = refl
   by-codes zero before (p ∷ ps) few starts c = absurd (omega arith)
   by-codes (suc n) before (p ∷ ps) few starts c =
@@ -105,14 +109,19 @@ module _ (all : List Sentence) (codes : Entries) (agree : (t : List ℕ) → is_
       let body = body_of ps in
       let tail = rest_of ps in
       let k = known_in codes body in
-      let both : AreClean (p.1 ∷ before) (sayings body ++ sayings tail) = subst (λ ss. AreClean (p.1 ∷ before) ss) (ap sayings cut.parts ∙ map-append (λ (q : ℕ × Sentence). q.1) body tail) c.1 in
-      let differ : DifferBehind (sayings body) = names-differ (p.1 ∷ before) (sayings body) (clean-front (p.1 ∷ before) (sayings body) (sayings tail) both) cut.body in
+      let both : AreClean (p.1 ∷ before) (sayings body ++ sayings tail) = subst (λ ss. AreClean (p.1 ∷ before) ss) (ap sayings cut.parts
+      ∙ map-append (λ (q : ℕ × Sentence). q.1) body tail) c.1 in
+      let differ : DifferBehind (sayings body) = names-differ (p.1 ∷ before) (sayings body)
+      (clean-front (p.1 ∷ before) (sayings body) (sayings tail) both) cut.body in
       let nodes : (r : Role) (t : List ℕ) → is_made r (found t k.nodes) ≡ any_of (makes_named r t) (sayings body) =
       λ r t. ap (is_made r) (found-nodes t 0 (sayings body) []) ∙ nodes-found r t 0 (sayings body) differ in
       let none : until_code (p.1 ∷ before) ≡ [] = until-here p.1 before starts in
-      let within = body-faults all k (sayings body) nodes agree (p.1 ∷ before) body tail cut.body (none-until (sayings tail) cut.rest) (λ f. ap (λ us. any_of f (us ++ sayings body)) none) in
-      let later = by-codes n (put_before (p.1 ∷ before) (sayings body)) tail (let h = cut.fewer in omega arith) cut.rest (clean-back (p.1 ∷ before) (sayings body) (sayings tail) both) in
-      ap (λ cs. map (λ c. (p.0, c)) cs ++ second_pass all (p.1 ∷ before) ps) (code-faultless all (until_code before ++ (p.1 ∷ until_code (sayings ps))) p.1 starts)
+      let within = body-faults all k (sayings body) nodes agree (p.1 ∷ before) body tail cut.body (none-until (sayings tail) cut.rest)
+      (λ f. ap (λ us. any_of f (us ++ sayings body)) none) in
+      let later = by-codes n (put_before (p.1 ∷ before) (sayings body)) tail (let h = cut.fewer in omega arith) cut.rest
+      (clean-back (p.1 ∷ before) (sayings body) (sayings tail) both) in
+      ap (λ cs. map (λ c. (p.0, c)) cs ++ second_pass all (p.1 ∷ before) ps)
+      (code-faultless all (until_code before ++ (p.1 ∷ until_code (sayings ps))) p.1 starts)
       ∙ ap (second_pass all (p.1 ∷ before)) cut.parts
       ∙ within ∙ ap (λ fs. faults_within k body ++ fs) (later ∙ sym (ap (faults_of_pieces codes) cut.same))
       ∙ sym (rw (pieces, starts) refl)
@@ -123,10 +132,12 @@ codes-agree all t = ap (is_made role.Callee) (found-codes t 0 all []) ∙ codes-
 
 -- the faults of the second pass of a text without a fault of the first
 pub second-by-codes : (bytes : List ℕ) → first_pass (last_line bytes) [] 1 (lines_of bytes) ≡ []
-    → faults_of_second (said_from 1 (lines_of bytes)) ≡ faults_of_pieces (codes_from 0 (sayings (said_from 1 (lines_of bytes))) []) (pieces (said_from 1 (lines_of bytes)))
+    → faults_of_second (said_from 1 (lines_of bytes)) ≡ faults_of_pieces (codes_from 0 (sayings (said_from 1 (lines_of bytes))) [])
+    (pieces (said_from 1 (lines_of bytes)))
 second-by-codes bytes e =
     let ns = said_from 1 (lines_of bytes) in
-    let clean : AreClean [] (sayings ns) = subst (λ ss. AreClean [] ss) (sym (sayings-said_from 1 (lines_of bytes))) (clean-lines (last_line bytes) [] 1 (lines_of bytes) e) in
+    let clean : AreClean [] (sayings ns) = subst (λ ss. AreClean [] ss) (sym (sayings-said_from 1 (lines_of bytes)))
+    (clean-lines (last_line bytes) [] 1 (lines_of bytes) e) in
     by-codes (sayings ns) (codes_from 0 (sayings ns) []) (codes-agree (sayings ns)) (length ns) [] ns (omega arith) (clean-starts (sayings ns) clean) clean
 
 -- the faults of a text without a fault of the first pass

@@ -1,5 +1,6 @@
 -- The lines of codes spell the lines of the graph of these codes.
-use Rattle.std.proofs.Common.{◌≡◌, ℕ, zero, suc, ◌+◌, ◌≤◌, ◌<◌, Bool, true, false, ◌&&◌, List, [], ◌∷◌, ◌++◌, length, map, flat_map, take, Option, Some, None, refl, sym, ap, ap₂, subst, ◌∙◌, true≢false, append_assoc, arith, inl, inr, ◌⊎◌, ⊎_elim}
+use Rattle.std.proofs.Common.{◌≡◌, ℕ, zero, suc, ◌+◌, ◌≤◌, ◌<◌, Bool, true, false, ◌&&◌, List, [], ◌∷◌, ◌++◌, length, map, flat_map, take, Option, Some, None}
+use Rattle.std.proofs.Common.{refl, sym, ap, ap₂, subst, ◌∙◌, true≢false, append_assoc, arith, inl, inr, ◌⊎◌, ⊎_elim}
 use Rattle.std.specs.Prelude.{codes as bytes_of, slice_get}
 use Rattle.std.proofs.lemmas.List.{map-append, append-nil}
 use Rattle.std.proofs.lemmas.List.Concat.{flat_map-cons}
@@ -87,7 +88,8 @@ none-begun s n e = rw (code_entries, code_begun, e) refl
 skip-lines : (n : ℕ) (xs rest : List Sentence) → NoCode xs → code_list n (xs ++ rest) ≡ code_list n rest
 skip-lines n [] rest none = refl
 skip-lines n (x ∷ xs) rest none =
-    ap (λ es. es ++ code_list (code_behind x.verb n) (xs ++ rest)) (none-begun x n none.0) ∙ ap (λ k. code_list k (xs ++ rest)) (plain-behind x.verb n none.0) ∙ skip-lines n xs rest none.1
+    ap (λ es. es ++ code_list (code_behind x.verb n) (xs ++ rest)) (none-begun x n none.0) ∙ ap (λ k. code_list k (xs ++ rest)) (plain-behind x.verb n none.0)
+    ∙ skip-lines n xs rest none.1
 
 -- an entry's code stands at its number
 pub record IsCodeAt (ds : List CodeLines) (first : ℕ) (t : List ℕ) (m : Made) : Type 0 where
@@ -102,16 +104,17 @@ code-entered [] first t m i = absurd i
 code-entered (d ∷ ds) first t m i =
     ⊎_elim
     (λ here.
-      let p = in-map (λ c. (c, record { role = role.Callee; number = first })) (t, m) (code_begun d.head) here in
-      let pair : (p.0, record { role = role.Callee; number = first }) ≡ (t, m) = p.2 in
-      let name : p.0 ≡ t = ap (λ z. z.0) pair in
-      let number : first ≡ m.number = ap (λ z. z.1.number) pair in
-      record { place = 0; number = omega (arith, number); code = d; there = refl; named = begun-by t d.head (subst (λ k. In k (code_begun d.head)) name p.1) })
+    let p = in-map (λ c. (c, record { role = role.Callee; number = first })) (t, m) (code_begun d.head) here in
+    let pair : (p.0, record { role = role.Callee; number = first }) ≡ (t, m) = p.2 in
+    let name : p.0 ≡ t = ap (λ z. z.0) pair in
+    let number : first ≡ m.number = ap (λ z. z.1.number) pair in
+    record { place = 0; number = omega (arith, number); code = d; there = refl; named = begun-by t d.head (subst (λ k. In k (code_begun d.head)) name p.1) })
     (λ later.
-      let skipped : code_list (code_behind d.head.verb first) (body_lines d ++ lines_of_codes ds) ≡ code_list (suc first) (lines_of_codes ds) =
-      ap (λ k. code_list k (body_lines d ++ lines_of_codes ds)) (code-behind d.head.verb first d.begins) ∙ skip-lines (suc first) (body_lines d) (lines_of_codes ds) (body-no-code d) in
-      let e = code-entered ds (suc first) t m (subst (λ es. In (t, m) es) skipped later) in
-      record { place = suc e.place; number = e.number ∙ omega arith; code = e.code; there = e.there; named = e.named })
+    let skipped : code_list (code_behind d.head.verb first) (body_lines d ++ lines_of_codes ds) ≡ code_list (suc first) (lines_of_codes ds) =
+    ap (λ k. code_list k (body_lines d ++ lines_of_codes ds)) (code-behind d.head.verb first d.begins)
+    ∙ skip-lines (suc first) (body_lines d) (lines_of_codes ds) (body-no-code d) in
+    let e = code-entered ds (suc first) t m (subst (λ es. In (t, m) es) skipped later) in
+    record { place = suc e.place; number = e.number ∙ omega arith; code = e.code; there = e.there; named = e.named })
     (in-append (t, m) (code_entries first d.head) (code_list (code_behind d.head.verb first) (body_lines d ++ lines_of_codes ds)) i)
 
 get-mapped : {X Y : Type 0} (f : X → Y) (xs : List X) (k : ℕ) (x : X) → slice_get xs k ≡ Some x → slice_get (map f xs) k ≡ Some (f x)
@@ -162,17 +165,20 @@ codes-there ds t m e =
     ap (λ n. (code_of (graph_read ds) n).name) number
     ∙ ap (λ o. (or_code o).name) (get-mapped (code_of_lines (entries_of ds)) ds w.place w.code w.there) ∙ w.named
 
-pub are-found : (ds : List CodeLines) (d : CodeLines) → IsGoodCode (entries_of ds) d → AreFound (graph_read ds) (code_of_lines (entries_of ds) d) (known_of (entries_of ds) d)
+pub are-found : (ds : List CodeLines) (d : CodeLines) → IsGoodCode (entries_of ds) d
+    → AreFound (graph_read ds) (code_of_lines (entries_of ds) d) (known_of (entries_of ds) d)
 are-found ds d good = record { nodes = nodes-there (entries_of ds) d good; codes = codes-there ds }
 
 -- the first line of a code
-head-spelled : (s : Sentence) → s.verb ≡ verb.Code → has_form s.name s.rest s.verb ≡ true → same_line (words_said s) (Bytes (bytes_of "code") ∷ Bytes (or_nameless (code_begun s)) ∷ []) ≡ true
+head-spelled : (s : Sentence) → s.verb ≡ verb.Code → has_form s.name s.rest s.verb ≡ true
+    → same_line (words_said s) (Bytes (bytes_of "code") ∷ Bytes (or_nameless (code_begun s)) ∷ []) ≡ true
 head-spelled s e f =
     let p = both-true _ _ (ap (has_form s.name s.rest) (sym e) ∙ f) in
     let none : s.name ≡ [] = no-words s.name (number-eq (length s.name) 0 p.0) in
     let one = one-element s.rest (number-eq (length s.rest) 1 p.1) in
     let begun : or_nameless (code_begun s) ≡ one.0 = rw (code_begun, ap is_code e) (ap (λ r. or_nameless (take 1 r)) one.1) in
-    let words : words_said s ≡ bytes_of "code" ∷ one.0 ∷ [] = ap₂ (λ n r. with_name n (verb_text s.verb ∷ r)) none one.1 ∙ ap (λ v. verb_text v ∷ one.0 ∷ []) e in
+    let words : words_said s ≡ bytes_of "code" ∷ one.0 ∷ [] = ap₂ (λ n r. with_name n (verb_text s.verb ∷ r)) none one.1
+    ∙ ap (λ v. verb_text v ∷ one.0 ∷ []) e in
     ap₂ (λ ws n. same_line ws (Bytes (bytes_of "code") ∷ Bytes n ∷ [])) words begun
     ∙ true-both _ _ (same_self (bytes_of "code")) (true-both _ _ (same_self one.0) refl)
 
@@ -184,11 +190,13 @@ code-spelled ds d good =
     let q = known_of (entries_of ds) d in
     let c = code_of_lines (entries_of ds) d in
     let of = code-of-tree (entries_of ds) d in
-    let body = tree-spelled g c q (are-found ds d good) d.body 0 0 1 d.fits (stands q d.body c of) (λ s i. good.lines s (left-in s (flat d.body) (d.close ∷ []) i)) in
+    let body = tree-spelled g c q (are-found ds d good) d.body 0 0 1 d.fits (stands q d.body c of)
+    (λ s i. good.lines s (left-in s (flat d.body) (d.close ∷ []) i)) in
     let last = end-spelled d.close d.closes (good.lines d.close (right-in d.close (flat d.body) (d.close ∷ []) (inl refl))).form in
     ap₂ (λ ws vs. same_lines (words_said d.head ∷ ws) ((Bytes (bytes_of "code") ∷ Bytes c.name ∷ []) ∷ (map (visit_line g c) vs ++ end_line ∷ [])))
     (map-append words_said (flat d.body) (d.close ∷ [])) (visited-so q d.body c of)
-    ∙ same-first (words_said d.head) (map words_said (flat d.body) ++ words_said d.close ∷ []) (Bytes (bytes_of "code") ∷ Bytes c.name ∷ []) (map (visit_line g c) (visits_of (shape d.body) 0) ++ end_line ∷ [])
+    ∙ same-first (words_said d.head) (map words_said (flat d.body) ++ words_said d.close ∷ []) (Bytes (bytes_of "code") ∷ Bytes c.name ∷ [])
+    (map (visit_line g c) (visits_of (shape d.body) 0) ++ end_line ∷ [])
     (head-spelled d.head d.begins good.head)
     (same-append (map words_said (flat d.body)) (words_said d.close ∷ []) (map (visit_line g c) (visits_of (shape d.body) 0)) (end_line ∷ []) body
     (same-first (words_said d.close) [] end_line [] last refl))
@@ -201,5 +209,6 @@ codes-spelled ds (d ∷ some) good =
     let g = graph_read ds in
     let c = code_of_lines (entries_of ds) d in
     ap₂ same_lines (map-append words_said (lines_of_code d) (lines_of_codes some)) (flat_map-cons (code_lines g) c (map (code_of_lines (entries_of ds)) some))
-    ∙ same-append (map words_said (lines_of_code d)) (map words_said (lines_of_codes some)) (code_lines g c) (flat_map (code_lines g) (map (code_of_lines (entries_of ds)) some))
+    ∙ same-append (map words_said (lines_of_code d)) (map words_said (lines_of_codes some)) (code_lines g c)
+    (flat_map (code_lines g) (map (code_of_lines (entries_of ds)) some))
     (code-spelled ds d (good d (inl refl))) (codes-spelled ds some (λ e i. good e (inr i)))

@@ -1,5 +1,6 @@
 -- What a name names stands at its number: the node of its line, or the code of its first line.
-use Rattle.std.proofs.Common.{◌≡◌, ℕ, zero, suc, ◌+◌, ◌≤◌, ◌<◌, Bool, true, false, List, [], ◌∷◌, ◌++◌, length, map, flat_map, Option, Some, None, refl, sym, ap, ap₂, subst, ◌∙◌, true≢false, append_assoc, arith, inl, inr, ◌⊎◌, ⊎_elim}
+use Rattle.std.proofs.Common.{◌≡◌, ℕ, zero, suc, ◌+◌, ◌≤◌, ◌<◌, Bool, true, false, List, [], ◌∷◌, ◌++◌, length, map, flat_map, Option, Some, None, refl, sym}
+use Rattle.std.proofs.Common.{ap, ap₂, subst, ◌∙◌, true≢false, append_assoc, arith, inl, inr, ◌⊎◌, ⊎_elim}
 use Rattle.std.specs.Prelude.{slice_get}
 use Rattle.tam_word.specs.Lists.{same_bytes}
 use Rattle.tam_word.proofs.Members.{In, left-in, right-in, in-append, in-map}
@@ -41,11 +42,22 @@ pub record IsEntered (c : Code) (q : Known) (ss : List Sentence) (n : List ℕ) 
   pub named : In n (names_made line)
   pub role : makes line.verb ≡ Some m.role
 
-wider-entered : (c : Code) (q : Known) (ss ts : List Sentence) (n : List ℕ) (m : Made) → ((s : Sentence) → In s ss → In s ts) → IsEntered c q ss n m → IsEntered c q ts n m
-wider-entered c q ss ts n m h e = record { line = e.line; among = h e.line e.among; node = e.node; there = e.there; made = e.made; is-node = e.is-node; named = e.named; role = e.role }
+wider-entered : (c : Code) (q : Known) (ss ts : List Sentence) (n : List ℕ) (m : Made) → ((s : Sentence) → In s ss → In s ts) → IsEntered c q ss n m
+    → IsEntered c q ts n m
+wider-entered c q ss ts n m h e = record {
+  line = e.line;
+  among = h e.line e.among;
+  node = e.node;
+  there = e.there;
+  made = e.made;
+  is-node = e.is-node;
+  named = e.named;
+  role = e.role;
+}
 
 -- an entry of a line
-line-entered : (c : Code) (q : Known) (s : Sentence) (x : ℕ) (node : Node) (n : List ℕ) (m : Made) → slice_get c.nodes x ≡ Some node → IsMade q s node → is_node s.verb ≡ true → In (n, m) (node_entries x s) → IsEntered c q (s ∷ []) n m
+line-entered : (c : Code) (q : Known) (s : Sentence) (x : ℕ) (node : Node) (n : List ℕ) (m : Made) → slice_get c.nodes x ≡ Some node → IsMade q s node
+    → is_node s.verb ≡ true → In (n, m) (node_entries x s) → IsEntered c q (s ∷ []) n m
 line-entered c q s x node n m h made is i = go (makes s.verb) refl
   where
     go : (o : Option Role) → makes s.verb ≡ o → IsEntered c q (s ∷ []) n m
@@ -56,7 +68,16 @@ line-entered c q s x node n m h made is i = go (makes s.verb) refl
         let name : p.0 ≡ n = ap (λ z. z.0) pair in
         let role_is : r ≡ m.role = ap (λ z. z.1.role) pair in
         let number_is : x ≡ m.number = ap (λ z. z.1.number) pair in
-        record { line = s; among = inl refl; node = node; there = subst (λ k. slice_get c.nodes k ≡ Some node) number_is h; made = made; is-node = is; named = subst (λ k. In k (names_made s)) name p.1; role = e ∙ ap Some role_is }
+        record {
+          line = s;
+          among = inl refl;
+          node = node;
+          there = subst (λ k. slice_get c.nodes k ≡ Some node) number_is h;
+          made = made;
+          is-node = is;
+          named = subst (λ k. In k (names_made s)) name p.1;
+          role = e ∙ ap Some role_is;
+        }
 
 next-number : (v : Verb) (x : ℕ) → is_node v ≡ true → number_behind v x ≡ suc x
 next-number v x e = rw (number_behind, e) (omega arith)
@@ -75,11 +96,12 @@ tree-entered c q (Plain s r) b x k f h rest n m i =
     let is = plain-is-node s.verb f.0 in
     let next : x + suc (size (shape r)) ≡ suc x + size (shape r) = omega arith in
     ⊎_elim
-    (λ here. inl (wider-entered c q (s ∷ []) (flat (Plain s r)) n m (λ z j. left-in z (s ∷ []) (flat r) j) (line-entered c q s x (node_plain q b s) n m h.0 (plain-made q b s f.0) is here)))
+    (λ here. inl (wider-entered c q (s ∷ []) (flat (Plain s r)) n m (λ z j. left-in z (s ∷ []) (flat r) j)
+    (line-entered c q s x (node_plain q b s) n m h.0 (plain-made q b s f.0) is here)))
     (λ later. ⊎_elim
-      (λ e. inl (wider-entered c q (flat r) (flat (Plain s r)) n m (λ z j. inr j) e))
-      (λ j. inr (rw next j))
-      (tree-entered c q r b (suc x) k f.1 h.1 rest n m (subst (λ y. In (n, m) (node_list y (flat r ++ rest))) (next-number s.verb x is) later)))
+    (λ e. inl (wider-entered c q (flat r) (flat (Plain s r)) n m (λ z j. inr j) e))
+    (λ j. inr (rw next j))
+    (tree-entered c q r b (suc x) k f.1 h.1 rest n m (subst (λ y. In (n, m) (node_list y (flat r ++ rest))) (next-number s.verb x is) later)))
     (in-append (n, m) (node_entries x s) (node_list (number_behind s.verb x) (flat r ++ rest)) i)
 tree-entered c q (Branch s y t o e r) b x k f h rest n m i =
     let j = suc k + opened (shape y) in
@@ -104,14 +126,18 @@ tree-entered c q (Branch s y t o e r) b x k f h rest n m i =
     let from_r : In (n, m) (node_list v rest3) → IsEntered c q whole n m ⊎ In (n, m) (node_list (x + size (shape (Branch s y t o e r))) rest) =
     λ p. ⊎_elim (λ w. inl (wider-entered c q (flat r) whole n m in_r w)) (λ w. inr (rw last w)) (tree-entered c q r b v l f.5 h.3 rest n m p) in
     let from_e : In (n, m) (node_list v (e ∷ rest3)) → IsEntered c q whole n m ⊎ In (n, m) (node_list (x + size (shape (Branch s y t o e r))) rest) =
-    λ p. from_r (subst (λ z. In (n, m) (node_list z rest3)) (same-number e.verb v ends) (subst (λ z. In (n, m) (z ++ node_list (number_behind e.verb v) rest3)) (none_e v) p)) in
+    λ p. from_r (subst (λ z. In (n, m) (node_list z rest3)) (same-number e.verb v ends)
+    (subst (λ z. In (n, m) (z ++ node_list (number_behind e.verb v) rest3)) (none_e v) p)) in
     let from_o : In (n, m) (node_list u rest2) → IsEntered c q whole n m ⊎ In (n, m) (node_list (x + size (shape (Branch s y t o e r))) rest) =
     λ p. ⊎_elim (λ w. inl (wider-entered c q (flat o) whole n m in_o w)) from_e (tree-entered c q o j u (suc j) f.3 h.2 (e ∷ rest3) n m p) in
     let from_t : In (n, m) (node_list u (t ∷ rest2)) → IsEntered c q whole n m ⊎ In (n, m) (node_list (x + size (shape (Branch s y t o e r))) rest) =
-    λ p. from_o (subst (λ z. In (n, m) (node_list z rest2)) (same-number t.verb u turn) (subst (λ z. In (n, m) (z ++ node_list (number_behind t.verb u) rest2)) (none_t u) p)) in
-    let from_y : In (n, m) (node_list (suc x) (flat y ++ (t ∷ rest2))) → IsEntered c q whole n m ⊎ In (n, m) (node_list (x + size (shape (Branch s y t o e r))) rest) =
+    λ p. from_o (subst (λ z. In (n, m) (node_list z rest2)) (same-number t.verb u turn)
+    (subst (λ z. In (n, m) (z ++ node_list (number_behind t.verb u) rest2)) (none_t u) p)) in
+    let from_y : In (n, m) (node_list (suc x) (flat y ++ (t ∷ rest2))) → IsEntered c q whole n m ⊎ In (n, m)
+    (node_list (x + size (shape (Branch s y t o e r))) rest) =
     λ p. ⊎_elim (λ w. inl (wider-entered c q (flat y) whole n m in_y w)) from_t (tree-entered c q y k (suc x) (suc k) f.1 h.1 (t ∷ rest2) n m p) in
     ⊎_elim
-    (λ here. inl (wider-entered c q (s ∷ []) whole n m (λ z p. left-in z (s ∷ []) (flat y ++ behind_y) p) (line-entered c q s x (node_cond q b k j s) n m h.0 (cond-made q b k j s f.0) is here)))
+    (λ here. inl (wider-entered c q (s ∷ []) whole n m (λ z p. left-in z (s ∷ []) (flat y ++ behind_y) p)
+    (line-entered c q s x (node_cond q b k j s) n m h.0 (cond-made q b k j s f.0) is here)))
     (λ later. from_y (subst (λ z. In (n, m) (node_list z (flat y ++ (t ∷ rest2)))) (next-number s.verb x is) later))
     (in-append (n, m) (node_entries x s) (node_list (number_behind s.verb x) (flat y ++ (t ∷ rest2))) (subst (λ z. In (n, m) (node_list x z)) parts i))

@@ -1,5 +1,6 @@
 -- No line of a text without a fault has a fault: its names and numbers are right, and what it names is found.
-use Rattle.std.proofs.Common.{◌≡◌, ℕ, suc, ◌+◌, ◌≤◌, Bool, true, false, not, ◌&&◌, List, [], ◌∷◌, ◌++◌, length, map, flat_map, refl, sym, ap, ap₂, subst, ◌∙◌, true≢false, arith, inl, inr, ◌⊎◌, ⊎_elim}
+use Rattle.std.proofs.Common.{◌≡◌, ℕ, suc, ◌+◌, ◌≤◌, Bool, true, false, not, ◌&&◌, List, [], ◌∷◌, ◌++◌, length, map, flat_map, refl, sym, ap, ap₂, subst, ◌∙◌}
+use Rattle.std.proofs.Common.{true≢false, arith, inl, inr, ◌⊎◌, ⊎_elim}
 use Rattle.tam_word.specs.Lists.{where_so, all_of}
 use Rattle.tam_word.proofs.Members.{In, left-in, right-in, in-append, in-map, map-in, none-left, none-right, map-none}
 use Rattle.tam_word.proofs.Tests.{both-true, not-true}
@@ -37,13 +38,15 @@ not-so false h = absurd (true≢false h)
 
 -- its names and its numbers
 pub names-right : (s : Sentence) → has_bad_name s ≡ false → (all_of is_name (names_made s) ≡ true) × (each_token is_name_for (roles_of s.verb) s.rest ≡ true)
-names-right s e = both-true (all_of is_name (names_made s)) (each_token is_name_for (roles_of s.verb) s.rest) (not-so (all_of is_name (names_made s) && each_token is_name_for (roles_of s.verb) s.rest) e)
+names-right s e = both-true (all_of is_name (names_made s)) (each_token is_name_for (roles_of s.verb) s.rest)
+    (not-so (all_of is_name (names_made s) && each_token is_name_for (roles_of s.verb) s.rest) e)
 
 pub numbers-right : (s : Sentence) → has_bad_number s ≡ false → each_token is_number_for (roles_of s.verb) s.rest ≡ true
 numbers-right s e = not-so (each_token is_number_for (roles_of s.verb) s.rest) e
 
 -- what a line without a fault of the second pass names is found
-pub known-right : (k : Known) (s : Sentence) → faults_known k s ≡ [] → (each_token (is_node_found k.nodes) (roles_of s.verb) s.rest ≡ true) × (each_token (is_code_found k.codes) (roles_of s.verb) s.rest ≡ true)
+pub known-right : (k : Known) (s : Sentence) → faults_known k s ≡ [] → (each_token (is_node_found k.nodes) (roles_of s.verb) s.rest ≡ true)
+    × (each_token (is_code_found k.codes) (roles_of s.verb) s.rest ≡ true)
 known-right k s e =
     let nodes = each_token (is_node_found k.nodes) (roles_of s.verb) s.rest in
     let codes = each_token (is_code_found k.codes) (roles_of s.verb) s.rest in (
@@ -53,15 +56,18 @@ known-right k s e =
 
 within-right : (k : Known) (body : Numbered) → faults_within k body ≡ [] → (s : Sentence) → In s (sayings body) → faults_known k s ≡ []
 within-right k [] e s i = absurd i
-within-right k (p ∷ body) e s (inl same) = subst (λ z. faults_known k z ≡ []) same (map-none (λ c. (p.0, c)) (faults_known k p.1) (none-left (map (λ c. (p.0, c)) (faults_known k p.1)) (faults_within k body) e))
+within-right k (p ∷ body) e s (inl same) = subst (λ z. faults_known k z ≡ []) same
+    (map-none (λ c. (p.0, c)) (faults_known k p.1) (none-left (map (λ c. (p.0, c)) (faults_known k p.1)) (faults_within k body) e))
 within-right k (p ∷ body) e s (inr i) = within-right k body (none-right (map (λ c. (p.0, c)) (faults_known k p.1)) (faults_within k body) e) s i
 
-pieces-right : (codes : Entries) (qs : List Piece) → faults_of_pieces codes qs ≡ [] → (q : Piece) → In q qs → (s : Sentence) → In s (sayings q.body) → faults_known (known_in codes q.body) s ≡ []
+pieces-right : (codes : Entries) (qs : List Piece) → faults_of_pieces codes qs ≡ [] → (q : Piece) → In q qs → (s : Sentence) → In s (sayings q.body)
+    → faults_known (known_in codes q.body) s ≡ []
 pieces-right codes [] e q i s j = absurd i
 pieces-right codes (p ∷ qs) e q (inl same) s j =
     let p_right = within-right (known_in codes p.body) p.body (none-left (faults_within (known_in codes p.body) p.body) (faults_of_pieces codes qs) e) in
     subst (λ z. (s : Sentence) → In s (sayings z.body) → faults_known (known_in codes z.body) s ≡ []) same p_right s j
-pieces-right codes (p ∷ qs) e q (inr i) s j = pieces-right codes qs (none-right (faults_within (known_in codes p.body) p.body) (faults_of_pieces codes qs) e) q i s j
+pieces-right codes (p ∷ qs) e q (inr i) s j = pieces-right codes qs (none-right (faults_within (known_in codes p.body) p.body)
+    (faults_of_pieces codes qs) e) q i s j
 
 -- a line of a code is one of the codes' lines
 pub in-codes : (ds : List CodeLines) (d : CodeLines) (s : Sentence) → In d ds → In s (lines_of_code d) → In s (lines_of_codes ds)
@@ -100,11 +106,14 @@ module _ (bytes : List ℕ) (none : faults bytes ≡ []) where
   found-there : (d : CodeLines) → In d read.lines → (s : Sentence) → In s (body_lines d) → faults_known (known_of (entries_of read.lines) d) s ≡ []
   found-there d i s j =
       let ns = said_from 1 (lines_of bytes) in
-      let plain : map unnumbered (pieces ns) ≡ map (λ d. (d.head, body_lines d)) read.lines = pieces-unnumbered ns ∙ ap plain_pieces read.said ∙ pieces-of-codes read.lines in
-      let m : In (d.head, body_lines d) (map unnumbered (pieces ns)) = subst (λ ps. In (d.head, body_lines d) ps) (sym plain) (map-in (λ d. (d.head, body_lines d)) d read.lines i) in
+      let plain : map unnumbered (pieces ns) ≡ map (λ d. (d.head, body_lines d)) read.lines = pieces-unnumbered ns ∙ ap plain_pieces read.said
+      ∙ pieces-of-codes read.lines in
+      let m : In (d.head, body_lines d) (map unnumbered (pieces ns)) = subst (λ ps. In (d.head, body_lines d) ps) (sym plain)
+      (map-in (λ d. (d.head, body_lines d)) d read.lines i) in
       let q = in-map unnumbered (d.head, body_lines d) (pieces ns) m in
       let body : sayings (q.0).body ≡ body_lines d = ap (λ p. p.1) q.2 in
-      let h : faults_known (known_among (codes_in ns) (sayings (q.0).body)) s ≡ [] = pieces-right (codes_in ns) (pieces ns) no-piece q.0 q.1 s (subst (λ ss. In s ss) (sym body) j) in
+      let h : faults_known (known_among (codes_in ns) (sayings (q.0).body)) s
+      ≡ [] = pieces-right (codes_in ns) (pieces ns) no-piece q.0 q.1 s (subst (λ ss. In s ss) (sym body) j) in
       ap₂ (λ es ss. faults_known (known_among es ss) s) (sym entries-are) (sym body) ∙ h
 
   -- no line of its codes has a fault
@@ -122,5 +131,12 @@ module _ (bytes : List ℕ) (none : faults bytes ≡ []) where
           let k = known-right (known_of (entries_of read.lines) d) s (found-there d i s j) in
           record {
             form = formed s there;
-            node = λ e. record { node = e; form = formed s there; names = (names-right s p.names).0; numbers = numbers-right s p.numbers; nodes = k.0; codes = k.1 };
+            node = λ e. record {
+              node = e;
+              form = formed s there;
+              names = (names-right s p.names).0;
+              numbers = numbers-right s p.numbers;
+              nodes = k.0;
+              codes = k.1;
+            };
           }

@@ -1,5 +1,6 @@
 -- The nodes that the lines of a code make: what they name is there, their numbers, depths and names are right.
-use Rattle.std.proofs.Common.{◌≡◌, ℕ, zero, suc, ◌+◌, ◌-◌, ◌%◌, ◌^◌, ◌<◌, ◌≤◌, Bool, true, false, not, ◌&&◌, ◌==◌, nat_lt, List, [], ◌∷◌, ◌++◌, length, map, flat_map, Option, Some, None, refl, sym, ap, ap₂, subst, ◌∙◌, true≢false, arith, inl, inr, ◌⊎◌, ⊎_elim}
+use Rattle.std.proofs.Common.{◌≡◌, ℕ, zero, suc, ◌+◌, ◌-◌, ◌%◌, ◌^◌, ◌<◌, ◌≤◌, Bool, true, false, not, ◌&&◌, ◌==◌, nat_lt, List, [], ◌∷◌, ◌++◌, length, map}
+use Rattle.std.proofs.Common.{flat_map, Option, Some, None, refl, sym, ap, ap₂, subst, ◌∙◌, true≢false, arith, inl, inr, ◌⊎◌, ⊎_elim}
 use Rattle.std.specs.Prelude.{slice_get, slice_index, nat_le, is_none, is_some}
 use Rattle.std.proofs.Math.Dec.{leb, leb-zero}
 use Rattle.std.proofs.lemmas.Bool.{leb-true, le-leb}
@@ -27,7 +28,8 @@ use Rattle.tam_read.specs.Sentences.{Sentence, makes, roles_of, same_role, has_d
 use Rattle.tam_read.specs.Tables.{found, is_node}
 use Rattle.tam_read.specs.Naming.{Known, is_made, is_node_found, is_code_found, number_for, first_number, second_number, third_number, or_number, or_zero}
 use Rattle.tam_read.specs.Building.{kind_made, kind_said, depth_made, depth_written, name_given, else_kind}
-use Rattle.tam_read.proofs.Spelling.{IsMade, IsGood, named-made, is_no_code, roles-no-code, made-some, some-there, few-roles, form-parts, one-element, no-element}
+use Rattle.tam_read.proofs.Spelling.{IsMade, IsGood, named-made, is_no_code, roles-no-code, made-some, some-there, few-roles, form-parts, one-element}
+use Rattle.tam_read.proofs.Spelling.{no-element}
 
 -- ---- kinds by their verbs
 
@@ -37,7 +39,8 @@ named_for r v = elim (makes v) [ None ↦ false | Some q ↦ same_role r q ]
 
 module _ (c : Code) (a : ℕ) (there : nat_lt a (length c.nodes) ≡ true) where
   -- a value
-  pub operand-there : (v : Verb) (x y z next other : ℕ) → kind_at c a ≡ else_kind other (kind_made v x y z next) → named_for role.Value v ≡ true → is_operand c a ≡ true
+  pub operand-there : (v : Verb) (x y z next other : ℕ) → kind_at c a ≡ else_kind other (kind_made v x y z next) → named_for role.Value v ≡ true
+      → is_operand c a ≡ true
   operand-there verb.Param x y z next other e h = rw (there, e) refl
   operand-there verb.Const x y z next other e h = rw (there, e) refl
   operand-there (verb.Operate o) x y z next other e h = rw (there, e) refl
@@ -50,12 +53,14 @@ module _ (c : Code) (a : ℕ) (there : nat_lt a (length c.nodes) ≡ true) where
   operand-there v x y z next other e h = absurd (true≢false (sym h))
 
   -- a call
-  pub call-there : (v : Verb) (x y z next other : ℕ) → kind_at c a ≡ else_kind other (kind_made v x y z next) → named_for role.Call v ≡ true → is_call_node c a ≡ true
+  pub call-there : (v : Verb) (x y z next other : ℕ) → kind_at c a ≡ else_kind other (kind_made v x y z next) → named_for role.Call v ≡ true
+      → is_call_node c a ≡ true
   call-there verb.Call x y z next other e h = rw (there, e) refl
   call-there v x y z next other e h = absurd (true≢false (sym h))
 
   -- a cond
-  pub cond-there : (v : Verb) (x y z next other : ℕ) → kind_at c a ≡ else_kind other (kind_made v x y z next) → named_for role.Cond v ≡ true → is_cond_node c a ≡ true
+  pub cond-there : (v : Verb) (x y z next other : ℕ) → kind_at c a ≡ else_kind other (kind_made v x y z next) → named_for role.Cond v ≡ true
+      → is_cond_node c a ≡ true
   cond-there verb.Cond x y z next other e h = rw (there, e) refl
   cond-there v x y z next other e h = absurd (true≢false (sym h))
 
@@ -77,7 +82,8 @@ AreRight codes c (r ∷ s ∷ []) x y z = (is_right codes c r x ≡ true) × (is
 AreRight codes c (r ∷ s ∷ t ∷ rs) x y z = (is_right codes c r x ≡ true) × (is_right codes c s y ≡ true) × (is_right codes c t z ≡ true)
 
 -- then the line is right
-pub line-right : (codes : ℕ) (c : Code) (v : Verb) (x y z next other : ℕ) → is_node v ≡ true → AreRight codes c (roles_of v) x y z → is_line codes c (else_kind other (kind_made v x y z next)) ≡ true
+pub line-right : (codes : ℕ) (c : Code) (v : Verb) (x y z next other : ℕ) → is_node v ≡ true → AreRight codes c (roles_of v) x y z
+    → is_line codes c (else_kind other (kind_made v x y z next)) ≡ true
 line-right codes c verb.Param x y z next other n h = h
 line-right codes c verb.Const x y z next other n h = h
 line-right codes c (verb.Operate o) x y z next other n h = rw (all_of, h.0, h.1) refl
@@ -172,12 +178,14 @@ named-right q s n made good = go (makes s.verb) refl
     is-named : is_named n.kind ≡ is_some (makes s.verb)
     is-named =
         ap is_named made.kind
-        ∙ named-made s.verb (first_number q (roles_of s.verb) s.rest) (second_number q (roles_of s.verb) s.rest) (third_number q (roles_of s.verb) s.rest) made.next made.other good.node
+        ∙ named-made s.verb (first_number q (roles_of s.verb) s.rest) (second_number q (roles_of s.verb) s.rest)
+        (third_number q (roles_of s.verb) s.rest) made.next made.other good.node
 
     go : (o : Option Role) → makes s.verb ≡ o → is_named_right n ≡ true
     go None e =
         let plain : is_named n.kind ≡ false = is-named ∙ ap is_some e in
-        let none : s.name ≡ [] = no-element s.name (number-eq (length s.name) 0 (rw e at (form-parts (makes s.verb) s.name s.rest (roles_of s.verb) good.form).0)) in
+        let none : s.name ≡ [] = no-element s.name (number-eq (length s.name) 0
+        (rw e at (form-parts (makes s.verb) s.name s.rest (roles_of s.verb) good.form).0)) in
         let name : n.name ≡ None = made.name ∙ ap (λ ns. name_given (map (name_made s.verb) ns)) none in
         rw (is_named_right, plain, name) refl
     go (Some r) e =

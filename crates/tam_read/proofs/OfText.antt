@@ -1,5 +1,6 @@
 -- A text without a fault reads as the graph of its codes.
-use Rattle.std.proofs.Common.{◌≡◌, ℕ, zero, suc, ◌+◌, ◌<◌, ◌≤◌, Bool, true, false, List, [], ◌∷◌, ◌++◌, length, map, flat_map, Some, refl, sym, ap, ap₂, subst, ◌∙◌, arith, inl}
+use Rattle.std.proofs.Common.{◌≡◌, ℕ, zero, suc, ◌+◌, ◌<◌, ◌≤◌, Bool, true, false, List, [], ◌∷◌, ◌++◌, length, map, flat_map, Some, refl, sym, ap, ap₂}
+use Rattle.std.proofs.Common.{subst, ◌∙◌, arith, inl}
 use Rattle.std.specs.Prelude.{slice_get, codes as bytes_of}
 use Rattle.std.specs.List.{filter}
 use Rattle.tam_word.specs.Lists.{all_differ, same_bytes}
@@ -38,13 +39,15 @@ get-mapped f [] k x e = absurd cc
 get-mapped f (y ∷ ys) zero x e = let same : y ≡ x = cc in ap (λ z. Some (f z)) same
 get-mapped f (y ∷ ys) (suc k) x e = get-mapped f ys k x e
 
-names-mapped : (ds : List CodeLines) (some : List CodeLines) → map (λ c. c.name) (map (code_of_lines (entries_of ds)) some) ≡ map (λ d. or_nameless (code_begun d.head)) some
+names-mapped : (ds : List CodeLines) (some : List CodeLines) → map (λ c. c.name) (map (code_of_lines (entries_of ds)) some)
+    ≡ map (λ d. or_nameless (code_begun d.head)) some
 names-mapped ds [] = refl
 names-mapped ds (d ∷ some) = ap (λ ns. or_nameless (code_begun d.head) ∷ ns) (names-mapped ds some)
 
 module _ (bytes : List ℕ) (none : faults bytes ≡ []) where
   -- each code is that of a text
-  code-is : (d : CodeLines) → In d (read bytes none).lines → IsCodeOfText (length (read bytes none).lines) (code_of_lines (entries_of (read bytes none).lines) d)
+  code-is : (d : CodeLines) → In d (read bytes none).lines → IsCodeOfText (length (read bytes none).lines)
+      (code_of_lines (entries_of (read bytes none).lines) d)
   code-is d i =
       let ds = (read bytes none).lines in
       let es = entries_of ds in
@@ -68,11 +71,13 @@ module _ (bytes : List ℕ) (none : faults bytes ≡ []) where
         };
         named = head-named d good.head (names-right d.head (clean-parts head.0 d.head head.1).names).1;
         nodes_named = nodes-named ds d good;
-        nodes_differ = code-names-differ ds d good (names-differ (d.head ∷ k.before) (body_lines d) (clean-front (d.head ∷ k.before) (body_lines d) k.rest k.clean.1) (body-no-code d));
+        nodes_differ = code-names-differ ds d good (names-differ (d.head ∷ k.before) (body_lines d)
+            (clean-front (d.head ∷ k.before) (body_lines d) k.rest k.clean.1) (body-no-code d));
       }
 
   each : (n : ℕ) → n < length (map (code_of_lines (entries_of (read bytes none).lines)) (read bytes none).lines)
-      → IsCodeOfText (length (map (code_of_lines (entries_of (read bytes none).lines)) (read bytes none).lines)) (code_of (graph_read (read bytes none).lines) n)
+      → IsCodeOfText (length (map (code_of_lines (entries_of (read bytes none).lines)) (read bytes none).lines))
+      (code_of (graph_read (read bytes none).lines) n)
   each n l =
       let ds = (read bytes none).lines in
       let make = code_of_lines (entries_of ds) in
@@ -88,7 +93,8 @@ module _ (bytes : List ℕ) (none : faults bytes ≡ []) where
       let heads : (d : CodeLines) → In d ds → has_form d.head.name d.head.rest d.head.verb ≡ true = λ d i. (good-codes bytes none d i).head in
       record {
         each_code = λ n l. each n l;
-        few_codes = (let few = few-codes ds (read bytes none).clean (λ s i. formed bytes none s i) heads in omega (arith, mapped (code_of_lines (entries_of ds)) ds));
+        few_codes = (let few = few-codes ds (read bytes none).clean (λ s i. formed bytes none s i) heads in omega
+            (arith, mapped (code_of_lines (entries_of ds)) ds));
         codes_differ = ap (all_differ same_bytes) (names-mapped ds ds) ∙ codes-differ ds (read bytes none).clean (λ s i. formed bytes none s i) heads;
         main = refl;
       }
@@ -98,9 +104,11 @@ module _ (bytes : List ℕ) (none : faults bytes ≡ []) where
   lines-spelled =
       let ds = (read bytes none).lines in
       let w = all-words _ 1 (lines_of bytes) (first-faultless bytes none) in
-      let words : token_lines bytes ≡ w.head ∷ map words_said (lines_of_codes ds) = w.parts ∙ ap (λ ss. w.head ∷ map words_said ss) (sym (sayings-said_from 1 (lines_of bytes)) ∙ (read bytes none).said) in
+      let words : token_lines bytes ≡ w.head ∷ map words_said (lines_of_codes ds) = w.parts
+      ∙ ap (λ ss. w.head ∷ map words_said ss) (sym (sayings-said_from 1 (lines_of bytes)) ∙ (read bytes none).said) in
       ap (λ ws. same_lines ws (graph_lines (graph_read ds))) words
-      ∙ same-first w.head (map words_said (lines_of_codes ds)) (Bytes (bytes_of "dg") ∷ Bytes (bytes_of "1") ∷ []) (flat_map (code_lines (graph_read ds)) (graph_read ds).codes) w.spelled
+      ∙ same-first w.head (map words_said (lines_of_codes ds)) (Bytes (bytes_of "dg") ∷ Bytes (bytes_of "1") ∷ [])
+      (flat_map (code_lines (graph_read ds)) (graph_read ds).codes) w.spelled
       (codes-spelled ds ds (λ d i. good-codes bytes none d i))
 
   graph-is : graph_read (read bytes none).lines ≡ graph_of (codes_read bytes)

@@ -23,7 +23,11 @@ by_form true s = omega arith
 by_form false s = omega arith
 
 by_verbs : (vs : List Verb) (name : List (List ℕ)) (rest : List (List ℕ))
-    → length {A = Sentence} (elim vs as (λ _. List Sentence) [ [] ↦ [] | v ∷ us ↦ elim (has_form name rest v) [ true ↦ record { name = name; verb = v; rest = rest } ∷ [] | false ↦ [] ] ]) ≤ 1
+    → length {A = Sentence} (elim vs as (λ _. List Sentence) [
+      | [] ↦ []
+      | v ∷ us ↦ elim
+          (has_form name rest v) [ true ↦ record { name = name; verb = v; rest = rest } ∷ [] | false ↦ [] ]
+    ]) ≤ 1
 by_verbs [] name rest = omega arith
 by_verbs (v ∷ us) name rest = by_form (has_form name rest v) (record { name = name; verb = v; rest = rest })
 
@@ -46,7 +50,8 @@ one_sentence (n ∷ e ∷ ts) = by_sign (same_bytes e (codes "=")) (said_named n
 
 -- ---- one line
 
-by_sentence : (before : List Sentence) (ss : List Sentence) → faults_said (kept_of before) ss ≡ elim ss as (λ _. List ReadCause) [ [] ↦ BadLine ∷ [] | s ∷ more ↦ faults_of_sentence before s ]
+by_sentence : (before : List Sentence) (ss : List Sentence) → faults_said (kept_of before) ss
+    ≡ elim ss as (λ _. List ReadCause) [ [] ↦ BadLine ∷ [] | s ∷ more ↦ faults_of_sentence before s ]
 by_sentence before [] = refl
 by_sentence before (s ∷ ss) = faults_kept-of before s
 
@@ -83,17 +88,21 @@ head_says_nothing (w ∷ v ∷ []) e =
     let q = both (same_bytes v (codes "1")) true p.1 in
     rw (same_is w (codes "dg") p.0, same_is v (codes "1") q.0) refl
 head_says_nothing (w ∷ v ∷ u ∷ ws) e =
-    absurd (let p = both (same_bytes w (codes "dg")) (same_list same_bytes (v ∷ u ∷ ws) (codes "1" ∷ [])) e in let q = both (same_bytes v (codes "1")) false p.1 in let r : false ≡ true = q.1 in cc)
+    absurd (let p = both (same_bytes w (codes "dg")) (same_list same_bytes (v ∷ u ∷ ws) (codes "1" ∷ [])) e
+    in let q = both (same_bytes v (codes "1")) false p.1 in let r : false ≡ true = q.1 in cc)
 
 pub no_bad_head : (t : Bool) → where_so (not t) BadHead ≡ [] → t ≡ true
 no_bad_head true e = refl
 no_bad_head false e = absurd cc
 
-read_behind-of : (before : List (List (List ℕ))) (ws : List (List ℕ)) → faults_of_words before ws ≡ [] → read_behind (is_some_of before) (kept_of (said before)) ws ≡ read_of (filter is_some_of (ws ∷ []) ++ before)
+read_behind-of : (before : List (List (List ℕ))) (ws : List (List ℕ)) → faults_of_words before ws ≡ []
+    → read_behind (is_some_of before) (kept_of (said before)) ws ≡ read_of (filter is_some_of (ws ∷ []) ++ before)
 read_behind-of before [] e = refl
-read_behind-of [] (w ∷ ws) e = ap (λ ss. made true (kept_of ss)) (sym (flat_map-cons sentence_of (w ∷ ws) [] ∙ ap (λ ss. ss ++ []) (head_says_nothing (w ∷ ws) (no_bad_head (is_head (w ∷ ws)) e))))
+read_behind-of [] (w ∷ ws) e = ap (λ ss. made true (kept_of ss)) (sym (flat_map-cons sentence_of (w ∷ ws) []
+    ∙ ap (λ ss. ss ++ []) (head_says_nothing (w ∷ ws) (no_bad_head (is_head (w ∷ ws)) e))))
 read_behind-of (b ∷ before) (w ∷ ws) e =
-    ap (made true) (kept_said-of (said (b ∷ before)) (sentence_of (w ∷ ws)) (one_sentence (w ∷ ws)) ∙ ap kept_of (sym (flat_map-cons sentence_of (w ∷ ws) (b ∷ before))))
+    ap (made true) (kept_said-of (said (b ∷ before)) (sentence_of (w ∷ ws)) (one_sentence (w ∷ ws))
+    ∙ ap kept_of (sym (flat_map-cons sentence_of (w ∷ ws) (b ∷ before))))
 
 pub none_behind : {X : Type 0} (xs ys : List X) → xs ++ ys ≡ [] → ys ≡ []
 none_behind [] ys e = e
@@ -114,10 +123,14 @@ ends-of [] = refl
 ends-of (b ∷ before) = ap (λ t. where_so t Ended) (some-counted (open_after (said (b ∷ before))))
 
 -- the first fault by what is kept is the first fault
-pub faults_lines-of : (last : ℕ) (before : List (List (List ℕ))) (n : ℕ) (lines : List (List ℕ)) → take 1 (faults_lines last (read_of before) n lines) ≡ take 1 (first_pass last before n lines)
+pub faults_lines-of : (last : ℕ) (before : List (List (List ℕ))) (n : ℕ) (lines : List (List ℕ))
+    → take 1 (faults_lines last (read_of before) n lines) ≡ take 1 (first_pass last before n lines)
 faults_lines-of last before n [] = ap (λ fs. take 1 (map (λ c. (last, c)) fs)) (ends-of before)
 faults_lines-of last before n (line ∷ lines) =
     let same = faults_line-of before line in
-    let go : faults_line (read_of before) line ≡ [] → take 1 (faults_lines last (read_behind (is_some_of before) (kept_of (said before)) (words_of line)) (n + 1) lines) ≡ take 1 (first_pass last (with_line line before) (n + 1) lines) =
-    λ e. ap (λ r. take 1 (faults_lines last r (n + 1) lines)) (read_behind-of before (words_of line) (none_behind _ _ (sym same ∙ e))) ∙ faults_lines-of last (with_line line before) (n + 1) lines in
-    by_line (λ c. (n, c)) (faults_line (read_of before) line) _ _ go ∙ ap (λ fs. take 1 (map (λ c. (n, c)) fs ++ first_pass last (with_line line before) (n + 1) lines)) same
+    let go : faults_line (read_of before) line ≡ [] → take 1 (faults_lines last (read_behind (is_some_of before) (kept_of (said before)) (words_of line))
+    (n + 1) lines) ≡ take 1 (first_pass last (with_line line before) (n + 1) lines) =
+    λ e. ap (λ r. take 1 (faults_lines last r (n + 1) lines)) (read_behind-of before (words_of line) (none_behind _ _ (sym same ∙ e)))
+    ∙ faults_lines-of last (with_line line before) (n + 1) lines in
+    by_line (λ c. (n, c)) (faults_line (read_of before) line) _ _ go ∙ ap
+    (λ fs. take 1 (map (λ c. (n, c)) fs ++ first_pass last (with_line line before) (n + 1) lines)) same

@@ -20,7 +20,8 @@ sayings-numbered [] = refl
 sayings-numbered (l ∷ ls) = ap (λ ss. saying l ∷ ss) (sayings-numbered ls)
 
 -- the names that are known
-pub known-is : (codes nodes : Entries) (body : List Line) (k : Known) → k ≡ record { nodes = nodes; codes = codes } → nodes ≡ nodes_from 0 (sayings_of body) [] → k ≡ known_in codes (map numbered body)
+pub known-is : (codes nodes : Entries) (body : List Line) (k : Known) → k ≡ record { nodes = nodes; codes = codes }
+    → nodes ≡ nodes_from 0 (sayings_of body) [] → k ≡ known_in codes (map numbered body)
 known-is codes nodes body k is e =
     let make : Entries → Known = λ ns. record { nodes = ns; codes = codes } in
     is ∙ ap make (e ∙ ap (λ ss. nodes_from 0 ss []) (sym (sayings-numbered body)))
@@ -32,7 +33,8 @@ pub part-is : (codes : Entries) (line : Line) (body : List Line) (k : Known) (na
 part-is codes line body k name b ls known named is lines =
     let make : List ℕ → Built → List ℕ → Part = λ n c l. record { code = code_built n c; line = line.number; lines = l } in
     let whole : b ≡ built (known_in codes (map numbered body)) nothing_built (sayings (map numbered body)) =
-    is ∙ ap (λ q. built q nothing_built (sayings_of body)) known ∙ ap (built (known_in codes (map numbered body)) nothing_built) (sym (sayings-numbered body)) in
+    is ∙ ap (λ q. built q nothing_built (sayings_of body)) known ∙ ap (built (known_in codes (map numbered body)) nothing_built)
+    (sym (sayings-numbered body)) in
     ap (λ n. make n b ls) named ∙ ap (λ c. make (or_nameless (code_begun (saying line))) c ls) whole
     ∙ ap (make (or_nameless (code_begun (saying line))) (built (known_in codes (map numbered body)) nothing_built (sayings (map numbered body)))) lines
 
@@ -52,7 +54,8 @@ module _ (codes : Entries) (line : Line) (rest others body : List Line) (parts :
   no-piece other = ap (λ ls. pieces (map numbered ls)) parts ∙ rw (pieces, other) refl
 
   -- and one that does begins one
-  pub one-piece : is_code line.verb ≡ true → map numbered body ≡ body_of (map numbered others) → pieces (map numbered rest) ≡ piece line body ∷ pieces (map numbered others)
+  pub one-piece : is_code line.verb ≡ true → map numbered body ≡ body_of (map numbered others)
+      → pieces (map numbered rest) ≡ piece line body ∷ pieces (map numbered others)
   one-piece so e =
       let make : List Line → List Piece = λ ls. pieces (map numbered ls) in
       ap make parts ∙ rw (pieces, so, e) refl

@@ -1,5 +1,6 @@
 -- The codes that are read of a text without a fault of the first pass: each is built of a tree of lines.
-use Rattle.std.proofs.Common.{◌≡◌, ℕ, zero, suc, ◌+◌, ◌≤◌, Bool, true, false, List, [], ◌∷◌, ◌++◌, length, map, flat_map, None, refl, sym, ap, ap₂, subst, ◌∙◌, true≢false, append_assoc, arith}
+use Rattle.std.proofs.Common.{◌≡◌, ℕ, zero, suc, ◌+◌, ◌≤◌, Bool, true, false, List, [], ◌∷◌, ◌++◌, length, map, flat_map, None, refl, sym, ap, ap₂, subst}
+use Rattle.std.proofs.Common.{◌∙◌, true≢false, append_assoc, arith}
 use Rattle.std.proofs.lemmas.List.{map-append, append-nil}
 use Rattle.tam_graph.specs.Lines.{lines_of, words_of}
 use Rattle.tam_graph.specs.Graphs.{Code}
@@ -42,7 +43,8 @@ pub pieces-unnumbered : (ps : Numbered) → map unnumbered (pieces ps) ≡ plain
 pieces-unnumbered [] = refl
 pieces-unnumbered (p ∷ ps) = go (is_code p.1.verb) refl (pieces-unnumbered ps)
   where
-    go : (b : Bool) → is_code p.1.verb ≡ b → map unnumbered (pieces ps) ≡ plain_pieces (sayings ps) → map unnumbered (pieces (p ∷ ps)) ≡ plain_pieces (p.1 ∷ sayings ps)
+    go : (b : Bool) → is_code p.1.verb ≡ b → map unnumbered (pieces ps) ≡ plain_pieces (sayings ps)
+        → map unnumbered (pieces (p ∷ ps)) ≡ plain_pieces (p.1 ∷ sayings ps)
     go true e i = rw (pieces, plain_pieces, e) (ap₂ (λ b qs. (p.1, b) ∷ qs) (body-unnumbered ps) i)
     go false e i = rw (pieces, plain_pieces, e) i
 
@@ -62,7 +64,8 @@ tree-no-code Done f = tt
 tree-no-code (Plain s r) f = (plain-no-code s.verb f.0, tree-no-code r f.1)
 tree-no-code (Branch s y t n e r) f = (
   ap is_code f.0,
-  no-code-append (flat y) (t ∷ (flat n ++ (e ∷ flat r))) (tree-no-code y f.1) (ap is_code f.2, no-code-append (flat n) (e ∷ flat r) (tree-no-code n f.3) (ap is_code f.4, tree-no-code r f.5)),
+  no-code-append (flat y) (t ∷ (flat n ++ (e ∷ flat r))) (tree-no-code y f.1)
+      (ap is_code f.2, no-code-append (flat n) (e ∷ flat r) (tree-no-code n f.3) (ap is_code f.4, tree-no-code r f.5)),
 )
 
 -- the lines of a code behind its first
@@ -104,7 +107,11 @@ known_of codes d = known_among codes (body_lines d)
 
 -- the code of a code's lines
 abbrev pub code_of_lines : Entries → CodeLines → Code
-code_of_lines codes d = record { name = or_nameless (code_begun d.head); nodes = tree_nodes (known_of codes d) d.body 0 1; owners = None ∷ tree_owners d.body 0 }
+code_of_lines codes d = record {
+  name = or_nameless (code_begun d.head);
+  nodes = tree_nodes (known_of codes d) d.body 0 1;
+  owners = None ∷ tree_owners d.body 0;
+}
 
 code-said : (codes : Entries) (d : CodeLines) → code_said codes (d.head, body_lines d) ≡ code_of_lines codes d
 code-said codes d = ap (code_built (or_nameless (code_begun d.head))) (code-built (known_of codes d) d.body d.close d.fits d.closes)
@@ -143,6 +150,7 @@ text-is-read bytes e =
       said = whole;
       clean = subst (λ ts. AreClean [] ts) i.whole (clean-lines (last_line bytes) [] 1 (lines_of bytes) e);
       codes =
-          codes-of-pieces (codes_in ns) (pieces ns) ∙ ap (map (code_said (codes_in ns))) (pieces-unnumbered ns ∙ ap plain_pieces whole ∙ pieces-of-codes i.codes)
+          codes-of-pieces (codes_in ns) (pieces ns) ∙ ap (map (code_said (codes_in ns))) (pieces-unnumbered ns ∙ ap plain_pieces whole
+          ∙ pieces-of-codes i.codes)
           ∙ codes-said (codes_in ns) i.codes ∙ ap (λ es. map (code_of_lines es) i.codes) entries;
     }

@@ -17,14 +17,16 @@ first_then false u = refl
 -- a key among keys, by either test
 pub any-keys : (name : List ℕ) (ks : List (Bor (List ℕ))) → any_of (same_bytes name) (texts ks) ≡ list_any (λ k. bytes_eq name k.now) ks
 any-keys name [] = refl
-any-keys name (k ∷ ks) = first_then (same_bytes name k.now) (any_of (same_bytes name) (texts ks)) ∙ ap (λ t. t || any_of (same_bytes name) (texts ks)) (same_bytes_is name k.now) ∙ ap (λ u. bytes_eq name k.now || u) (any-keys name ks)
+any-keys name (k ∷ ks) = first_then (same_bytes name k.now) (any_of (same_bytes name) (texts ks))
+    ∙ ap (λ t. t || any_of (same_bytes name) (texts ks)) (same_bytes_is name k.now) ∙ ap (λ u. bytes_eq name k.now || u) (any-keys name ks)
 
 -- the same, where the latest comes first
 pub kept-keys : (name : List ℕ) (ks : List (Bor (List ℕ))) → any_of (same_bytes name) (texts (reverse ks)) ≡ list_any (λ k. bytes_eq name k.now) ks
 kept-keys name ks = any_of-reverse (same_bytes name) (λ t. t.now) ks ∙ any-keys name ks
 
 -- a new name comes first
-pub pushed-key : (name : Bor (List ℕ)) (ks new : List (Bor (List ℕ))) → any_of (same_bytes name.now) (texts (reverse ks)) ≡ false → new ≡ insert_key (λ x y. bytes_eq x.now y.now) ks name
+pub pushed-key : (name : Bor (List ℕ)) (ks new : List (Bor (List ℕ))) → any_of (same_bytes name.now) (texts (reverse ks)) ≡ false
+    → new ≡ insert_key (λ x y. bytes_eq x.now y.now) ks name
     → texts (reverse new) ≡ name.now ∷ texts (reverse ks)
 pushed-key name ks new absent is =
     let none : list_any (λ k. bytes_eq name.now k.now) ks ≡ false = sym (kept-keys name.now ks) ∙ absent in

@@ -1,5 +1,6 @@
 -- A line spells the line of the node that is made of it.
-use Rattle.std.proofs.Common.{◌≡◌, ℕ, suc, ◌+◌, ◌^◌, ◌<◌, ◌≤◌, Bool, true, false, ◌&&◌, ◌==◌, List, [], ◌∷◌, ◌++◌, length, map, Option, Some, None, refl, sym, ap, ap₂, subst, ◌∙◌, true≢false, arith}
+use Rattle.std.proofs.Common.{◌≡◌, ℕ, suc, ◌+◌, ◌^◌, ◌<◌, ◌≤◌, Bool, true, false, ◌&&◌, ◌==◌, List, [], ◌∷◌, ◌++◌, length, map, Option, Some, None, refl, sym}
+use Rattle.std.proofs.Common.{ap, ap₂, subst, ◌∙◌, true≢false, arith}
 use Rattle.std.specs.Prelude.{codes, decimal, slice_get, is_some}
 use Rattle.tam_word.specs.Lists.{all_of, same_bytes}
 use Rattle.tam_word.specs.Numbers.{word_of, place_of, some_if}
@@ -106,7 +107,8 @@ module _ (g : Graph) (c : Code) (q : Known) (are : AreFound g c q) where
   role_tokens (r ∷ rs) [] = []
   role_tokens (r ∷ rs) (t ∷ ts) = role_token g c r (number_for q r t) ∷ role_tokens rs ts
 
-  pub first-of-each : (f : Role → List ℕ → Bool) (r : Role) (rs : List Role) (t : List ℕ) (ts : List (List ℕ)) → each_token f (r ∷ rs) (t ∷ ts) ≡ true → (f r t ≡ true) × (each_token f rs ts ≡ true)
+  pub first-of-each : (f : Role → List ℕ → Bool) (r : Role) (rs : List Role) (t : List ℕ) (ts : List (List ℕ)) → each_token f (r ∷ rs) (t ∷ ts) ≡ true
+      → (f r t ≡ true) × (each_token f rs ts ≡ true)
   first-of-each f r rs t ts e = go (f r t) refl
     where
       go : (b : Bool) → f r t ≡ b → (f r t ≡ true) × (each_token f rs ts ≡ true)
@@ -120,7 +122,8 @@ module _ (g : Graph) (c : Code) (q : Known) (are : AreFound g c q) where
       go true p = (p, rw (all_of, p) at e)
       go false p = absurd (true≢false (sym (rw (all_of, p) at e)))
 
-  pub rest-spelled : (rs : List Role) (ts : List (List ℕ)) → length ts ≡ length rs → all_of is_no_code rs ≡ true → each_token is_number_for rs ts ≡ true → each_token (is_node_found q.nodes) rs ts ≡ true
+  pub rest-spelled : (rs : List Role) (ts : List (List ℕ)) → length ts ≡ length rs → all_of is_no_code rs ≡ true → each_token is_number_for rs ts ≡ true
+      → each_token (is_node_found q.nodes) rs ts ≡ true
       → each_token (is_code_found q.codes) rs ts ≡ true → same_line ts (role_tokens rs ts) ≡ true
   rest-spelled [] [] l n a b d = refl
   rest-spelled [] (t ∷ ts) l n a b d = absurd (omega arith)
@@ -133,7 +136,8 @@ module _ (g : Graph) (c : Code) (q : Known) (are : AreFound g c q) where
       true-both _ _ (token-spelled r t n0.0 a0.0 b0.0 d0.0) (rest-spelled rs ts (omega arith) n0.1 a0.1 b0.1 d0.1)
 
   -- up to three tokens have three numbers
-  pub three-numbers : (rs : List Role) (ts : List (List ℕ)) → length ts ≡ length rs → length rs ≤ 3 → three_tokens g c rs (first_number q rs ts) (second_number q rs ts) (third_number q rs ts) ≡ role_tokens rs ts
+  pub three-numbers : (rs : List Role) (ts : List (List ℕ)) → length ts ≡ length rs → length rs ≤ 3
+      → three_tokens g c rs (first_number q rs ts) (second_number q rs ts) (third_number q rs ts) ≡ role_tokens rs ts
   three-numbers [] ts l few = refl
   three-numbers (r ∷ rs) [] l few = absurd (omega arith)
   three-numbers (r ∷ []) (t ∷ []) l few = refl
@@ -194,9 +198,11 @@ pub node-line-at : (g : Graph) (c : Code) (x : ℕ) (n : Node) → slice_get c.n
 node-line-at g c x n e = ap (λ o. line_by g c (or_name o) (or_depth o) (or_kind o)) e
 
 -- where both hold, by parts
-pub form-parts : (o : Option Role) (name rest : List (List ℕ)) (roles : List Role) → ((elim o [ None ↦ length name == 0 | Some r ↦ length name == 1 ]) && (length rest == length roles)) ≡ true
+pub form-parts : (o : Option Role) (name rest : List (List ℕ)) (roles : List Role)
+    → ((elim o [ None ↦ length name == 0 | Some r ↦ length name == 1 ]) && (length rest == length roles)) ≡ true
     → ((elim o [ None ↦ length name == 0 | Some r ↦ length name == 1 ]) ≡ true) × (length rest ≡ length roles)
-form-parts o name rest roles e = let p = both-true (elim o [ None ↦ length name == 0 | Some r ↦ length name == 1 ]) (length rest == length roles) e in (p.0, number-eq (length rest) (length roles) p.1)
+form-parts o name rest roles e = let p = both-true (elim o [ None ↦ length name == 0 | Some r ↦ length name == 1 ]) (length rest == length roles) e in
+    (p.0, number-eq (length rest) (length roles) p.1)
 
 pub no-element : (xs : List (List ℕ)) → length xs ≡ 0 → xs ≡ []
 no-element [] e = refl
@@ -208,7 +214,8 @@ one-element (x ∷ []) e = (x, refl)
 one-element (x ∷ y ∷ xs) e = absurd (omega arith)
 
 module _ (g : Graph) (c : Code) (q : Known) (are : AreFound g c q) (s : Sentence) (good : IsGood q s) (n : Node) (made : IsMade q s n) where
-  kind-is : n.kind ≡ else_kind made.other (kind_made s.verb (first_number q (roles_of s.verb) s.rest) (second_number q (roles_of s.verb) s.rest) (third_number q (roles_of s.verb) s.rest) made.next)
+  kind-is : n.kind ≡ else_kind made.other (kind_made s.verb (first_number q (roles_of s.verb) s.rest) (second_number q (roles_of s.verb) s.rest)
+      (third_number q (roles_of s.verb) s.rest) made.next)
   kind-is = made.kind
 
   parts : ((elim (makes s.verb) [ None ↦ length s.name == 0 | Some r ↦ length s.name == 1 ]) ≡ true) × (length s.rest ≡ length (roles_of s.verb))
@@ -216,16 +223,19 @@ module _ (g : Graph) (c : Code) (q : Known) (are : AreFound g c q) (s : Sentence
 
   tokens-are : tokens g c n.kind ≡ Bytes (verb_text s.verb) ∷ role_tokens g c q are (roles_of s.verb) s.rest
   tokens-are =
-      ap (tokens g c) kind-is ∙ tokens-made g c s.verb (first_number q (roles_of s.verb) s.rest) (second_number q (roles_of s.verb) s.rest) (third_number q (roles_of s.verb) s.rest) made.next made.other good.node
+      ap (tokens g c) kind-is ∙ tokens-made g c s.verb (first_number q (roles_of s.verb) s.rest) (second_number q (roles_of s.verb) s.rest)
+      (third_number q (roles_of s.verb) s.rest) made.next made.other good.node
       ∙ ap (λ ts. Bytes (verb_text s.verb) ∷ ts) (three-numbers g c q are (roles_of s.verb) s.rest parts.1 (few-roles s.verb))
 
   behind-name : same_line (verb_text s.verb ∷ s.rest) (tokens g c n.kind) ≡ true
   behind-name =
       ap (same_line (verb_text s.verb ∷ s.rest)) tokens-are
-      ∙ true-both _ _ (same_self (verb_text s.verb)) (rest-spelled g c q are (roles_of s.verb) s.rest parts.1 (roles-no-code s.verb good.node) good.numbers good.nodes good.codes)
+      ∙ true-both _ _ (same_self (verb_text s.verb)) (rest-spelled g c q are (roles_of s.verb) s.rest parts.1
+      (roles-no-code s.verb good.node) good.numbers good.nodes good.codes)
 
   is-named : is_named n.kind ≡ is_some (makes s.verb)
-  is-named = ap is_named kind-is ∙ named-made s.verb (first_number q (roles_of s.verb) s.rest) (second_number q (roles_of s.verb) s.rest) (third_number q (roles_of s.verb) s.rest) made.next made.other good.node
+  is-named = ap is_named kind-is ∙ named-made s.verb (first_number q (roles_of s.verb) s.rest) (second_number q (roles_of s.verb) s.rest)
+      (third_number q (roles_of s.verb) s.rest) made.next made.other good.node
 
   with-none : makes s.verb ≡ None → same_line (words_said s) (line_by g c (or_bytes n.name) n.depth n.kind) ≡ true
   with-none e =
@@ -241,7 +251,8 @@ module _ (g : Graph) (c : Code) (q : Known) (are : AreFound g c q) (s : Sentence
       let so : is_named n.kind ≡ true = is-named ∙ ap is_some e in
       let names : names_made s ≡ name_made s.verb t ∷ [] = ap (map (name_made s.verb)) one.1 in
       let named : is_name (name_made s.verb t) ≡ true = first-of-names (name_made s.verb t) (ap (all_of is_name) (sym names) ∙ good.names) in
-      let bytes : or_bytes n.name ≡ name_made s.verb t = ap or_bytes (made.name ∙ ap name_given names) ∙ ap (λ b. or_bytes (some_if b (name_made s.verb t))) named in
+      let bytes : or_bytes n.name ≡ name_made s.verb t = ap or_bytes (made.name ∙ ap name_given names)
+      ∙ ap (λ b. or_bytes (some_if b (name_made s.verb t))) named in
       let depth : n.depth ≡ depth_made s.verb (t ∷ []) = made.depth ∙ ap (depth_made s.verb) one.1 in
       let token : or_bytes n.name ++ suffix n.depth ≡ t = ap₂ (λ a b. a ++ suffix b) bytes depth ∙ token-again s.verb t in
       ap (λ ns. same_line (with_name ns (verb_text s.verb ∷ s.rest)) (line_by g c (or_bytes n.name) n.depth n.kind)) one.1

@@ -1,5 +1,6 @@
 -- The lines of a text without a fault of the first pass: its bytes are good, and its words are a head and those of its sentences.
-use Rattle.std.proofs.Common.{◌≡◌, ℕ, suc, ◌+◌, ◌≤◌, Bool, true, false, not, ◌&&◌, ◌||◌, ◌==◌, List, [], ◌∷◌, ◌++◌, length, map, flat_map, refl, sym, ap, ap₂, subst, ◌∙◌, true≢false, append_assoc, arith, inl, inr, ◌⊎◌, ⊎_elim}
+use Rattle.std.proofs.Common.{◌≡◌, ℕ, suc, ◌+◌, ◌≤◌, Bool, true, false, not, ◌&&◌, ◌||◌, ◌==◌, List, [], ◌∷◌, ◌++◌, length, map, flat_map, refl, sym, ap, ap₂}
+use Rattle.std.proofs.Common.{subst, ◌∙◌, true≢false, append_assoc, arith, inl, inr, ◌⊎◌, ⊎_elim}
 use Rattle.std.specs.Prelude.{codes as bytes_of}
 use Rattle.std.specs.List.{filter, onto_first}
 use Rattle.std.proofs.Math.Dec.{leb}
@@ -53,7 +54,8 @@ pub lines-good : (bs : List ℕ) → all_of are_good_bytes (lines_of bs) ≡ tru
 lines-good [] e = refl
 lines-good (b ∷ bs) e = go (b == 10) refl (lines_of bs) refl (lines-good bs)
   where
-    go : (t : Bool) → (b == 10) ≡ t → (ms : List (List ℕ)) → lines_of bs ≡ ms → (all_of are_good_bytes (lines_of bs) ≡ true → are_good_bytes bs ≡ true) → are_good_bytes (b ∷ bs) ≡ true
+    go : (t : Bool) → (b == 10) ≡ t → (ms : List (List ℕ)) → lines_of bs ≡ ms → (all_of are_good_bytes (lines_of bs) ≡ true → are_good_bytes bs ≡ true)
+        → are_good_bytes (b ∷ bs) ≡ true
     go true p ms q i =
         let parts = first-of are_good_bytes (b ∷ []) (lines_of bs) (rw (lines_of, p) at e) in
         good-both b bs (rw (is_good_byte, p) refl) (i parts.1)
@@ -73,17 +75,20 @@ lines-good (b ∷ bs) e = go (b == 10) refl (lines_of bs) refl (lines-good bs)
     go false p (m ∷ ms) q i =
         let parts = first-of are_good_bytes (b ∷ m) ms (rw (lines_of, p, q) at e) in
         let line = good-parts b m parts.0 in
-        let here : is_good_byte b bs ≡ true = ap (λ t. (b == 10) || ((b == 9) || ((leb 32 b && leb b 126) || ((b == 13) && t)))) (sym (first-line bs m ms q)) ∙ line.0 in
+        let here : is_good_byte b bs ≡ true = ap (λ t. (b == 10) || ((b == 9) || ((leb 32 b && leb b 126) || ((b == 13) && t)))) (sym (first-line bs m ms q))
+        ∙ line.0 in
         let both : all_of are_good_bytes (m ∷ ms) ≡ true = rw (all_of, line.1) parts.1 in
         good-both b bs here (i (ap (all_of are_good_bytes) q ∙ both))
 
 -- no line of a text without a fault of the first pass has a bad byte
-pub all-good : (last : ℕ) (before : List (List (List ℕ))) (n : ℕ) (lines : List (List ℕ)) → first_pass last before n lines ≡ [] → all_of are_good_bytes lines ≡ true
+pub all-good : (last : ℕ) (before : List (List (List ℕ))) (n : ℕ) (lines : List (List ℕ)) → first_pass last before n lines ≡ []
+    → all_of are_good_bytes lines ≡ true
 all-good last before n [] e = refl
 all-good last before n (line ∷ lines) e =
     let here = none-left (map (λ c. (n, c)) (faults_of_line before line)) (first_pass last (with_line line before) (n + 1) lines) e in
     let later = none-right (map (λ c. (n, c)) (faults_of_line before line)) (first_pass last (with_line line before) (n + 1) lines) e in
-    let bytes = where_none (not (are_good_bytes line)) BadByte (none-left (where_so (not (are_good_bytes line)) BadByte) (faults_of_words before (words_of line)) (map-none (λ c. (n, c)) (faults_of_line before line) here)) in
+    let bytes = where_none (not (are_good_bytes line)) BadByte (none-left (where_so (not (are_good_bytes line)) BadByte)
+    (faults_of_words before (words_of line)) (map-none (λ c. (n, c)) (faults_of_line before line) here)) in
     rw (all_of, not-bad (are_good_bytes line) bytes) (all-good last (with_line line before) (n + 1) lines later)
   where
     not-bad : (t : Bool) → not t ≡ false → t ≡ true
@@ -93,7 +98,8 @@ all-good last before n (line ∷ lines) e =
 -- ---- words
 
 -- a line behind the head that has words is that of a sentence
-by-said : (before : List Sentence) (ws : List (List ℕ)) (ss : List Sentence) → sentence_of ws ≡ ss → length ss ≤ 1 → (elim ss as (λ _. List ReadCause) [ [] ↦ BadLine ∷ [] | s ∷ more ↦ faults_of_sentence before s ]) ≡ []
+by-said : (before : List Sentence) (ws : List (List ℕ)) (ss : List Sentence) → sentence_of ws ≡ ss → length ss ≤ 1
+    → (elim ss as (λ _. List ReadCause) [ [] ↦ BadLine ∷ [] | s ∷ more ↦ faults_of_sentence before s ]) ≡ []
     → (s : Sentence) × (ss ≡ s ∷ []) × IsSaidSo ws s
 by-said before ws [] is one e = absurd cc
 by-said before ws (s ∷ []) is one e = (s, refl, words-back ws s is)
@@ -107,12 +113,15 @@ words-behind last b before n (line ∷ lines) e =
     let here = none-left (map (λ c. (n, c)) (faults_of_line (b ∷ before) line)) (first_pass last (with_line line (b ∷ before)) (n + 1) lines) e in
     let later = none-right (map (λ c. (n, c)) (faults_of_line (b ∷ before) line)) (first_pass last (with_line line (b ∷ before)) (n + 1) lines) e in
     let words : faults_of_words (b ∷ before) (words_of line) ≡ [] =
-    none-right (where_so (not (are_good_bytes line)) BadByte) (faults_of_words (b ∷ before) (words_of line)) (map-none (λ c. (n, c)) (faults_of_line (b ∷ before) line) here) in
+    none-right (where_so (not (are_good_bytes line)) BadByte) (faults_of_words (b ∷ before) (words_of line))
+    (map-none (λ c. (n, c)) (faults_of_line (b ∷ before) line) here) in
     go (words_of line) words (λ c d k. words-behind last c d (n + 1) lines k) later
-    ∙ sym (ap (map words_said) (flat_map-cons sentence_of (words_of line) (map words_of lines)) ∙ map-append words_said (sentence_of (words_of line)) (said (map words_of lines)))
+    ∙ sym (ap (map words_said) (flat_map-cons sentence_of (words_of line) (map words_of lines))
+    ∙ map-append words_said (sentence_of (words_of line)) (said (map words_of lines)))
   where
     go : (ws : List (List ℕ)) → faults_of_words (b ∷ before) ws ≡ []
-        → ((c : List (List ℕ)) (d : List (List (List ℕ))) → first_pass last (c ∷ d) (n + 1) lines ≡ [] → filter is_some_of (map words_of lines) ≡ map words_said (said (map words_of lines)))
+        → ((c : List (List ℕ)) (d : List (List (List ℕ))) → first_pass last (c ∷ d) (n + 1) lines ≡ []
+        → filter is_some_of (map words_of lines) ≡ map words_said (said (map words_of lines)))
         → first_pass last (filter is_some_of (ws ∷ []) ++ (b ∷ before)) (n + 1) lines ≡ []
         → filter is_some_of (ws ∷ map words_of lines) ≡ map words_said (sentence_of ws) ++ map words_said (said (map words_of lines))
     go [] f i k = i b before k
@@ -126,12 +135,14 @@ head-by : (ws : List (List ℕ)) → is_head ws ≡ true → same_line ws (Bytes
 head-by [] e = e
 head-by (w ∷ ws) e = go (same_bytes w (bytes_of "dg")) refl ws e
   where
-    go : (t : Bool) → same_bytes w (bytes_of "dg") ≡ t → (ws : List (List ℕ)) → is_head (w ∷ ws) ≡ true → same_line (w ∷ ws) (Bytes (bytes_of "dg") ∷ Bytes (bytes_of "1") ∷ []) ≡ true
+    go : (t : Bool) → same_bytes w (bytes_of "dg") ≡ t → (ws : List (List ℕ)) → is_head (w ∷ ws) ≡ true
+        → same_line (w ∷ ws) (Bytes (bytes_of "dg") ∷ Bytes (bytes_of "1") ∷ []) ≡ true
     go false p ws e = absurd (true≢false (sym (rw (is_head, same_list, p) at e)))
     go true p [] e = absurd (true≢false (sym (rw (is_head, same_list, p) at e)))
     go true p (v ∷ ws) e = then (same_bytes v (bytes_of "1")) refl ws (rw (is_head, same_list, p) at e)
       where
-        then : (t : Bool) → same_bytes v (bytes_of "1") ≡ t → (ws : List (List ℕ)) → same_list same_bytes (v ∷ ws) (bytes_of "1" ∷ []) ≡ true → same_line (w ∷ v ∷ ws) (Bytes (bytes_of "dg") ∷ Bytes (bytes_of "1") ∷ []) ≡ true
+        then : (t : Bool) → same_bytes v (bytes_of "1") ≡ t → (ws : List (List ℕ)) → same_list same_bytes (v ∷ ws) (bytes_of "1" ∷ []) ≡ true
+            → same_line (w ∷ v ∷ ws) (Bytes (bytes_of "dg") ∷ Bytes (bytes_of "1") ∷ []) ≡ true
         then false q ws e = absurd (true≢false (sym (rw (same_list, q) at e)))
         then true q [] e = true-both _ _ p (true-both _ _ q refl)
         then true q (u ∷ us) e = absurd (true≢false (sym (rw (same_list, q) at e)))
@@ -142,7 +153,8 @@ pub record AreWorded (ls : List (List (List ℕ))) (ss : List Sentence) : Type 0
   pub parts : ls ≡ head ∷ map words_said ss
   pub spelled : same_line head (Bytes (bytes_of "dg") ∷ Bytes (bytes_of "1") ∷ []) ≡ true
 
-pub all-words : (last n : ℕ) (lines : List (List ℕ)) → first_pass last [] n lines ≡ [] → AreWorded (filter is_some_of (map words_of lines)) (said (map words_of lines))
+pub all-words : (last n : ℕ) (lines : List (List ℕ)) → first_pass last [] n lines ≡ []
+    → AreWorded (filter is_some_of (map words_of lines)) (said (map words_of lines))
 all-words last n [] e = absurd cc
 all-words last n (line ∷ lines) e =
     let here = none-left (map (λ c. (n, c)) (faults_of_line [] line)) (first_pass last (with_line line []) (n + 1) lines) e in
@@ -152,8 +164,10 @@ all-words last n (line ∷ lines) e =
     subst (λ ss. AreWorded (filter is_some_of (map words_of (line ∷ lines))) ss) (sym (flat_map-cons sentence_of (words_of line) (map words_of lines)))
     (go (words_of line) words (λ k. all-words last (n + 1) lines k) later)
   where
-    go : (ws : List (List ℕ)) → faults_of_words [] ws ≡ [] → (first_pass last [] (n + 1) lines ≡ [] → AreWorded (filter is_some_of (map words_of lines)) (said (map words_of lines)))
-        → first_pass last (filter is_some_of (ws ∷ []) ++ []) (n + 1) lines ≡ [] → AreWorded (filter is_some_of (ws ∷ map words_of lines)) (sentence_of ws ++ said (map words_of lines))
+    go : (ws : List (List ℕ)) → faults_of_words [] ws ≡ [] → (first_pass last [] (n + 1) lines ≡ []
+        → AreWorded (filter is_some_of (map words_of lines)) (said (map words_of lines)))
+        → first_pass last (filter is_some_of (ws ∷ []) ++ []) (n + 1) lines ≡ []
+        → AreWorded (filter is_some_of (ws ∷ map words_of lines)) (sentence_of ws ++ said (map words_of lines))
     go [] f i k = i k
     go (w ∷ ws) f i k =
         let is = no_bad_head (is_head (w ∷ ws)) f in

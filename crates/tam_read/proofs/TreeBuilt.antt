@@ -1,5 +1,6 @@
 -- What is built of a tree of lines.
-use Rattle.std.proofs.Common.{◌≡◌, ℕ, zero, suc, ◌+◌, ◌≤◌, Bool, true, false, List, [], ◌∷◌, ◌++◌, length, Option, Some, None, refl, sym, ap, subst, ◌∙◌, append_assoc, arith}
+use Rattle.std.proofs.Common.{◌≡◌, ℕ, zero, suc, ◌+◌, ◌≤◌, Bool, true, false, List, [], ◌∷◌, ◌++◌, length, Option, Some, None, refl, sym, ap, subst, ◌∙◌}
+use Rattle.std.proofs.Common.{append_assoc, arith}
 use Rattle.std.proofs.lemmas.List.{append-nil, length-append}
 use Rattle.tam_word.specs.Lists.{changed_at}
 use Rattle.tam_graph.specs.declared.kind.Kind.{Kind}
@@ -11,7 +12,8 @@ use Rattle.tam_read.specs.declared.form.Verb.TheVariants as verb
 use Rattle.tam_read.specs.declared.branch.Branch.{Branch as OpenBlock}
 use Rattle.tam_read.specs.Sentences.{Sentence, roles_of, names_made}
 use Rattle.tam_read.specs.Naming.{Known, first_number, second_number, third_number}
-use Rattle.tam_read.specs.Building.{kind_made, kind_said, depth_made, name_given, node_said, Built, built, built_behind, built_by, turned_else, with_else, else_kind, block_within, cond_within, outside, a_branch}
+use Rattle.tam_read.specs.Building.{kind_made, kind_said, depth_made, name_given, node_said, Built, built, built_behind, built_by, turned_else, with_else}
+use Rattle.tam_read.specs.Building.{else_kind, block_within, cond_within, outside, a_branch}
 use Rattle.tam_read.proofs.Nested.{Tree, Done, Plain, Branch, flat, Fits, is_plain_verb}
 
 -- a tree without its sentences
@@ -26,7 +28,12 @@ node_plain k b s = node_said k b 0 s
 
 -- the node of a cond
 abbrev pub node_cond : Known → ℕ → ℕ → ℕ → Sentence → Node
-node_cond k b y n s = record { name = name_given (names_made s); depth = depth_made s.verb s.name; block = b; kind = kind.Cond (first_number k (roles_of s.verb) s.rest) y n }
+node_cond k b y n s = record {
+  name = name_given (names_made s);
+  depth = depth_made s.verb s.name;
+  block = b;
+  kind = kind.Cond (first_number k (roles_of s.verb) s.rest) y n;
+}
 
 -- the nodes of a tree in block b, where k is the next block
 abbrev pub tree_nodes : Known → Tree → ℕ → ℕ → List Node
@@ -34,7 +41,8 @@ tree_nodes q Done b k = []
 tree_nodes q (Plain s r) b k = node_plain q b s ∷ tree_nodes q r b k
 tree_nodes q (Branch s y t n e r) b k =
     node_cond q b k (suc k + opened (shape y)) s
-    ∷ (tree_nodes q y k (suc k) ++ (tree_nodes q n (suc k + opened (shape y)) (suc (suc k + opened (shape y))) ++ tree_nodes q r b (suc (suc k + opened (shape y)) + opened (shape n))))
+    ∷ (tree_nodes q y k (suc k) ++ (tree_nodes q n (suc k + opened (shape y)) (suc (suc k + opened (shape y))) ++ tree_nodes q r b
+    (suc (suc k + opened (shape y)) + opened (shape n))))
 
 -- for each block that it opens its cond, where x is the next node
 abbrev pub tree_owners : Tree → ℕ → List (Option ℕ)
@@ -84,7 +92,8 @@ node-same q b next s e =
     (kind-same s.verb (first_number q (roles_of s.verb) s.rest) (second_number q (roles_of s.verb) s.rest) (third_number q (roles_of s.verb) s.rest) next e)
 
 -- behind a plain line
-plain-by : (q : Known) (b : Built) (s : Sentence) (v : Verb) → is_plain_verb v ≡ true → built_by q b s v ≡ a_built (b.nodes ++ node_said q (block_within b.within) (length b.owners) s ∷ []) b.owners b.within
+plain-by : (q : Known) (b : Built) (s : Sentence) (v : Verb) → is_plain_verb v ≡ true
+    → built_by q b s v ≡ a_built (b.nodes ++ node_said q (block_within b.within) (length b.owners) s ∷ []) b.owners b.within
 plain-by q b s verb.Code e = absurd cc
 plain-by q b s verb.Cond e = absurd cc
 plain-by q b s verb.Else e = absurd cc
@@ -92,7 +101,8 @@ plain-by q b s verb.End e = absurd cc
 plain-by q b s v e = refl
 
 -- an element in a row is changed at its place
-pub changed-there : {X : Type 0} (f : X → X) (front : List X) (x : X) (back : List X) (n : ℕ) → length front ≡ n → changed_at n f (front ++ x ∷ back) ≡ front ++ f x ∷ back
+pub changed-there : {X : Type 0} (f : X → X) (front : List X) (x : X) (back : List X) (n : ℕ) → length front ≡ n
+    → changed_at n f (front ++ x ∷ back) ≡ front ++ f x ∷ back
 changed-there f [] x back zero e = refl
 changed-there f [] x back (suc n) e = absurd (omega arith)
 changed-there f (y ∷ front) x back zero e = absurd (omega arith)
@@ -111,10 +121,12 @@ flat-branch s y t n e r rest =
 cond-node : (q : Known) (b next : ℕ) (s : Sentence) → s.verb ≡ verb.Cond → node_said q b next s ≡ node_cond q b next 0 s
 cond-node q b next s e =
     ap (λ k. let n : Node = record { name = name_given (names_made s); depth = depth_made s.verb s.name; block = b; kind = k } in n)
-    (ap (λ v. kind_made v (first_number q (roles_of s.verb) s.rest) (second_number q (roles_of s.verb) s.rest) (third_number q (roles_of s.verb) s.rest) next) e)
+    (ap (λ v. kind_made v (first_number q (roles_of s.verb) s.rest) (second_number q (roles_of s.verb) s.rest)
+    (third_number q (roles_of s.verb) s.rest) next) e)
 
 -- behind the line of a cond
-cond-built : (q : Known) (s : Sentence) (ns : List Node) (os : List (Option ℕ)) (b c : ℕ) (w : List OpenBlock) (x k : ℕ) → s.verb ≡ verb.Cond → length ns ≡ x → length os ≡ k
+cond-built : (q : Known) (s : Sentence) (ns : List Node) (os : List (Option ℕ)) (b c : ℕ) (w : List OpenBlock) (x k : ℕ) → s.verb ≡ verb.Cond → length ns ≡ x
+    → length os ≡ k
     → built_behind q (a_built ns os (a_branch b c ∷ w)) s ≡ a_built (ns ++ node_cond q b k 0 s ∷ []) (os ++ Some x ∷ []) (a_branch k x ∷ a_branch b c ∷ w)
 cond-built q s ns os b c w x k e lx lk =
     ap (built_by q (a_built ns os (a_branch b c ∷ w)) s) e
@@ -123,7 +135,8 @@ cond-built q s ns os b c w x k e lx lk =
     ∙ ap (λ i. a_built (ns ++ node_cond q b k 0 s ∷ []) (os ++ Some i ∷ []) (a_branch k i ∷ a_branch b c ∷ w)) lx
 
 -- behind its `else`
-else-built : (q : Known) (s t : Sentence) (ns ys : List Node) (os : List (Option ℕ)) (b c k : ℕ) (w : List OpenBlock) (x j : ℕ) → t.verb ≡ verb.Else → length ns ≡ x → length os ≡ j
+else-built : (q : Known) (s t : Sentence) (ns ys : List Node) (os : List (Option ℕ)) (b c k : ℕ) (w : List OpenBlock) (x j : ℕ) → t.verb ≡ verb.Else
+    → length ns ≡ x → length os ≡ j
     → built_behind q (a_built ((ns ++ node_cond q b k 0 s ∷ []) ++ ys) os (a_branch k x ∷ a_branch b c ∷ w)) t
     ≡ a_built ((ns ++ node_cond q b k j s ∷ []) ++ ys) (os ++ Some x ∷ []) (a_branch j x ∷ a_branch b c ∷ w)
 else-built q s t ns ys os b c k w x j e lx lj =
@@ -137,25 +150,30 @@ else-built q s t ns ys os b c k w x j e lx lj =
     ∙ ap (λ i. a_built ((ns ++ node_cond q b k i s ∷ []) ++ ys) (os ++ Some x ∷ []) (a_branch i x ∷ a_branch b c ∷ w)) lj
 
 -- behind its `end`
-end-built : (q : Known) (e : Sentence) (ns : List Node) (os : List (Option ℕ)) (o : OpenBlock) (w : List OpenBlock) → e.verb ≡ verb.End → built_behind q (a_built ns os (o ∷ w)) e ≡ a_built ns os w
+end-built : (q : Known) (e : Sentence) (ns : List Node) (os : List (Option ℕ)) (o : OpenBlock) (w : List OpenBlock) → e.verb ≡ verb.End
+    → built_behind q (a_built ns os (o ∷ w)) e ≡ a_built ns os w
 end-built q e ns os o w is = ap (built_by q (a_built ns os (o ∷ w)) e) is
 
 -- the nodes and the owners of a branch in a row
 branch-nodes : (ns : List Node) (m : Node) (ys zs rs : List Node) → (((ns ++ m ∷ []) ++ ys) ++ zs) ++ rs ≡ ns ++ (m ∷ (ys ++ (zs ++ rs)))
 branch-nodes ns m ys zs rs = append_assoc ((ns ++ m ∷ []) ++ ys) zs rs ∙ append_assoc (ns ++ m ∷ []) ys (zs ++ rs) ∙ append_assoc ns (m ∷ []) (ys ++ (zs ++ rs))
 
-branch-owners : (os : List (Option ℕ)) (o : Option ℕ) (ys zs rs : List (Option ℕ)) → ((((os ++ o ∷ []) ++ ys) ++ o ∷ []) ++ zs) ++ rs ≡ os ++ (o ∷ (ys ++ (o ∷ (zs ++ rs))))
+branch-owners : (os : List (Option ℕ)) (o : Option ℕ) (ys zs rs : List (Option ℕ))
+    → ((((os ++ o ∷ []) ++ ys) ++ o ∷ []) ++ zs) ++ rs ≡ os ++ (o ∷ (ys ++ (o ∷ (zs ++ rs))))
 branch-owners os o ys zs rs =
     append_assoc (((os ++ o ∷ []) ++ ys) ++ o ∷ []) zs rs ∙ append_assoc ((os ++ o ∷ []) ++ ys) (o ∷ []) (zs ++ rs)
     ∙ append_assoc (os ++ o ∷ []) ys (o ∷ (zs ++ rs)) ∙ append_assoc os (o ∷ []) (ys ++ (o ∷ (zs ++ rs)))
 
 -- the lines of a tree build its nodes and its owners, and what stands behind them builds on
-pub tree-built : (q : Known) (t : Tree) → Fits t → (ns : List Node) (os : List (Option ℕ)) (b c : ℕ) (w : List OpenBlock) (x k : ℕ) (rest : List Sentence) → length ns ≡ x → length os ≡ k
+pub tree-built : (q : Known) (t : Tree) → Fits t → (ns : List Node) (os : List (Option ℕ)) (b c : ℕ) (w : List OpenBlock) (x k : ℕ) (rest : List Sentence)
+    → length ns ≡ x → length os ≡ k
     → built q (a_built ns os (a_branch b c ∷ w)) (flat t ++ rest) ≡ built q (a_built (ns ++ tree_nodes q t b k) (os ++ tree_owners t x) (a_branch b c ∷ w)) rest
 tree-built q Done f ns os b c w x k rest lx lk =
-    ap (λ z. built q (a_built z os (a_branch b c ∷ w)) rest) (sym (append-nil ns)) ∙ ap (λ z. built q (a_built (ns ++ []) z (a_branch b c ∷ w)) rest) (sym (append-nil os))
+    ap (λ z. built q (a_built z os (a_branch b c ∷ w)) rest) (sym (append-nil ns))
+    ∙ ap (λ z. built q (a_built (ns ++ []) z (a_branch b c ∷ w)) rest) (sym (append-nil os))
 tree-built q (Plain s r) f ns os b c w x k rest lx lk =
-    ap (λ z. built q z (flat r ++ rest)) (plain-by q (a_built ns os (a_branch b c ∷ w)) s s.verb f.0 ∙ ap (λ m. a_built (ns ++ m ∷ []) os (a_branch b c ∷ w)) (node-same q b (length os) s f.0))
+    ap (λ z. built q z (flat r ++ rest)) (plain-by q (a_built ns os (a_branch b c ∷ w)) s s.verb f.0
+    ∙ ap (λ m. a_built (ns ++ m ∷ []) os (a_branch b c ∷ w)) (node-same q b (length os) s f.0))
     ∙ tree-built q r f.1 (ns ++ node_plain q b s ∷ []) os b c w (suc x) k rest (one-longer ns (node_plain q b s) x lx) lk
     ∙ ap (λ z. built q (a_built z (os ++ tree_owners r (suc x)) (a_branch b c ∷ w)) rest) (append_assoc ns (node_plain q b s ∷ []) (tree_nodes q r b k))
 tree-built q (Branch s y t n e r) f ns os b c w x k rest lx lk =
@@ -189,7 +207,8 @@ tree-built q (Branch s y t n e r) f ns os b c w x k rest lx lk =
     ∙ ap (λ z. built q z rest3) (end-built q e (ns3 ++ zs) os4 (a_branch j x) out f.4)
     ∙ tree-built q r f.5 (ns3 ++ zs) os4 b c w v l rest len_ns4 len_os4
     ∙ ap (λ z. built q (a_built z (os4 ++ tree_owners r v) out) rest) (branch-nodes ns (node_cond q b k j s) ys zs (tree_nodes q r b l))
-    ∙ ap (λ z. built q (a_built (ns ++ (node_cond q b k j s ∷ (ys ++ (zs ++ tree_nodes q r b l)))) z out) rest) (branch-owners os (Some x) (tree_owners y (suc x)) (tree_owners n u) (tree_owners r v))
+    ∙ ap (λ z. built q (a_built (ns ++ (node_cond q b k j s ∷ (ys ++ (zs ++ tree_nodes q r b l)))) z out) rest)
+    (branch-owners os (Some x) (tree_owners y (suc x)) (tree_owners n u) (tree_owners r v))
 
 -- what the lines of a code build
 pub code-built : (q : Known) (t : Tree) (e : Sentence) → Fits t → e.verb ≡ verb.End

@@ -1,5 +1,6 @@
 -- The lines of a tree spell the lines of the code that they make.
-use Rattle.std.proofs.Common.{◌≡◌, ℕ, zero, suc, ◌+◌, ◌≤◌, Bool, true, false, ◌&&◌, List, [], ◌∷◌, ◌++◌, length, map, flat_map, Option, Some, None, refl, sym, ap, ap₂, subst, ◌∙◌, true≢false, append_assoc, arith, inl, inr, ◌⊎◌}
+use Rattle.std.proofs.Common.{◌≡◌, ℕ, zero, suc, ◌+◌, ◌≤◌, Bool, true, false, ◌&&◌, List, [], ◌∷◌, ◌++◌, length, map, flat_map, Option, Some, None, refl, sym}
+use Rattle.std.proofs.Common.{ap, ap₂, subst, ◌∙◌, true≢false, append_assoc, arith, inl, inr, ◌⊎◌}
 use Rattle.std.specs.Prelude.{codes, slice_get}
 use Rattle.std.proofs.lemmas.List.{map-append}
 use Rattle.tam_word.proofs.Members.{In, left-in, right-in}
@@ -46,7 +47,8 @@ cond-made q b y n s e = record {
   other = n;
   name = refl;
   depth = refl;
-  kind = sym (ap (λ v. else_kind n (kind_made v (first_number q (roles_of s.verb) s.rest) (second_number q (roles_of s.verb) s.rest) (third_number q (roles_of s.verb) s.rest) y)) e);
+  kind = sym (ap (λ v. else_kind n (kind_made v (first_number q (roles_of s.verb) s.rest) (second_number q (roles_of s.verb) s.rest)
+      (third_number q (roles_of s.verb) s.rest) y)) e);
 }
 
 -- ---- lines
@@ -57,13 +59,15 @@ pub record IsGoodLine (q : Known) (s : Sentence) : Type 0 where
   pub node : is_node s.verb ≡ true → IsGood q s
 
 -- lines and others behind them
-pub same-append : (ws vs : List (List (List ℕ))) (ls ms : List Line) → same_lines ws ls ≡ true → same_lines vs ms ≡ true → same_lines (ws ++ vs) (ls ++ ms) ≡ true
+pub same-append : (ws vs : List (List (List ℕ))) (ls ms : List Line) → same_lines ws ls ≡ true → same_lines vs ms ≡ true
+    → same_lines (ws ++ vs) (ls ++ ms) ≡ true
 same-append [] vs [] ms a b = b
 same-append [] vs (l ∷ ls) ms a b = absurd (true≢false (sym a))
 same-append (w ∷ ws) vs [] ms a b = absurd (true≢false (sym a))
 same-append (w ∷ ws) vs (l ∷ ls) ms a b = let p = both-true (same_line w l) (same_lines ws ls) a in true-both _ _ p.0 (same-append ws vs ls ms p.1 b)
 
-pub same-first : (w : List (List ℕ)) (ws : List (List (List ℕ))) (l : Line) (ls : List Line) → same_line w l ≡ true → same_lines ws ls ≡ true → same_lines (w ∷ ws) (l ∷ ls) ≡ true
+pub same-first : (w : List (List ℕ)) (ws : List (List (List ℕ))) (l : Line) (ls : List Line) → same_line w l ≡ true → same_lines ws ls ≡ true
+    → same_lines (w ∷ ws) (l ∷ ls) ≡ true
 same-first w ws l ls a b = true-both _ _ a b
 
 pub no-words : (xs : List (List ℕ)) → length xs ≡ 0 → xs ≡ []
@@ -71,7 +75,8 @@ no-words [] e = refl
 no-words (x ∷ xs) e = absurd (omega arith)
 
 -- the words of a line with a verb alone
-alone-by : (v : Verb) (name rest : List (List ℕ)) → (v ≡ verb.Else) ⊎ (v ≡ verb.End) → has_form name rest v ≡ true → with_name name (verb_text v ∷ rest) ≡ verb_text v ∷ []
+alone-by : (v : Verb) (name rest : List (List ℕ)) → (v ≡ verb.Else) ⊎ (v ≡ verb.End) → has_form name rest v ≡ true
+    → with_name name (verb_text v ∷ rest) ≡ verb_text v ∷ []
 alone-by v name rest (inl e) f =
     let p = both-true _ _ (ap (has_form name rest) (sym e) ∙ f) in
     ap₂ (λ n r. with_name n (verb_text v ∷ r)) (no-words name (number-eq (length name) 0 p.0)) (no-words rest (number-eq (length rest) 0 p.1))
@@ -86,7 +91,8 @@ pub end-spelled : (s : Sentence) → s.verb ≡ verb.End → has_form s.name s.r
 end-spelled s e f = ap (λ ws. same_line ws end_line) (alone-by s.verb s.name s.rest (inr e) f ∙ ap (λ v. verb_text v ∷ []) e)
 
 -- the visits of a branch, one behind the other
-branch-visits : (x : ℕ) (vy vn vr : List Visit) → (AtNode x ∷ (vy ++ (AtElse x ∷ vn ++ AtEnd x ∷ [])) ++ vr) ≡ AtNode x ∷ (vy ++ (AtElse x ∷ (vn ++ (AtEnd x ∷ vr))))
+branch-visits : (x : ℕ) (vy vn vr : List Visit) → (AtNode x ∷ (vy ++ (AtElse x ∷ vn ++ AtEnd x ∷ [])) ++ vr)
+    ≡ AtNode x ∷ (vy ++ (AtElse x ∷ (vn ++ (AtEnd x ∷ vr))))
 branch-visits x vy vn vr =
     ap (λ l. AtNode x ∷ l) (append_assoc vy (AtElse x ∷ vn ++ AtEnd x ∷ []) vr ∙ ap (λ l. vy ++ (AtElse x ∷ l)) (append_assoc vn (AtEnd x ∷ []) vr))
 
@@ -120,13 +126,19 @@ module _ (g : Graph) (c : Code) (q : Known) (are : AreFound g c q) where
       let last = end-spelled e f.4 (good e (in_e e (inl refl))).form in
       let part_r = tree-spelled r b v l f.5 h.3 (λ z i. good z (in_e z (inr i))) in
       let words : say (flat (Branch s y t n e r)) ≡ words_said s ∷ (say (flat y) ++ (words_said t ∷ (say (flat n) ++ (words_said e ∷ say (flat r))))) =
-      ap (λ ws. words_said s ∷ ws) (map-append words_said (flat y) behind_y ∙ ap (λ ws. say (flat y) ++ (words_said t ∷ ws)) (map-append words_said (flat n) (e ∷ flat r))) in
-      let shown : show (visits_of (shape (Branch s y t n e r)) x) ≡ visit_line g c (AtNode x) ∷ (show vy ++ (visit_line g c (AtElse x) ∷ (show vn ++ (visit_line g c (AtEnd x) ∷ show vr)))) =
+      ap (λ ws. words_said s ∷ ws) (map-append words_said (flat y) behind_y
+      ∙ ap (λ ws. say (flat y) ++ (words_said t ∷ ws)) (map-append words_said (flat n) (e ∷ flat r))) in
+      let shown : show (visits_of (shape (Branch s y t n e r)) x) ≡ visit_line g c (AtNode x) ∷
+      (show vy ++ (visit_line g c (AtElse x) ∷ (show vn ++ (visit_line g c (AtEnd x) ∷ show vr)))) =
       ap show (branch-visits x vy vn vr)
-      ∙ ap (λ ls. visit_line g c (AtNode x) ∷ ls) (map-append (visit_line g c) vy (AtElse x ∷ (vn ++ (AtEnd x ∷ vr))) ∙ ap (λ ls. show vy ++ (visit_line g c (AtElse x) ∷ ls)) (map-append (visit_line g c) vn (AtEnd x ∷ vr))) in
+      ∙ ap (λ ls. visit_line g c (AtNode x) ∷ ls) (map-append (visit_line g c) vy (AtElse x ∷ (vn ++ (AtEnd x ∷ vr)))
+      ∙ ap (λ ls. show vy ++ (visit_line g c (AtElse x) ∷ ls)) (map-append (visit_line g c) vn (AtEnd x ∷ vr))) in
       ap₂ same_lines words shown
-      ∙ same-first (words_said s) (say (flat y) ++ (words_said t ∷ (say (flat n) ++ (words_said e ∷ say (flat r))))) (visit_line g c (AtNode x)) (show vy ++ (visit_line g c (AtElse x) ∷ (show vn ++ (visit_line g c (AtEnd x) ∷ show vr)))) first
-      (same-append (say (flat y)) (words_said t ∷ (say (flat n) ++ (words_said e ∷ say (flat r)))) (show vy) (visit_line g c (AtElse x) ∷ (show vn ++ (visit_line g c (AtEnd x) ∷ show vr))) part_y
-      (same-first (words_said t) (say (flat n) ++ (words_said e ∷ say (flat r))) (visit_line g c (AtElse x)) (show vn ++ (visit_line g c (AtEnd x) ∷ show vr)) turn
+      ∙ same-first (words_said s) (say (flat y) ++ (words_said t ∷ (say (flat n) ++ (words_said e ∷ say (flat r))))) (visit_line g c (AtNode x))
+      (show vy ++ (visit_line g c (AtElse x) ∷ (show vn ++ (visit_line g c (AtEnd x) ∷ show vr)))) first
+      (same-append (say (flat y)) (words_said t ∷ (say (flat n) ++ (words_said e ∷ say (flat r)))) (show vy)
+      (visit_line g c (AtElse x) ∷ (show vn ++ (visit_line g c (AtEnd x) ∷ show vr))) part_y
+      (same-first (words_said t) (say (flat n) ++ (words_said e ∷ say (flat r))) (visit_line g c (AtElse x))
+      (show vn ++ (visit_line g c (AtEnd x) ∷ show vr)) turn
       (same-append (say (flat n)) (words_said e ∷ say (flat r)) (show vn) (visit_line g c (AtEnd x) ∷ show vr) part_n
       (same-first (words_said e) (say (flat r)) (visit_line g c (AtEnd x)) (show vr) last part_r))))

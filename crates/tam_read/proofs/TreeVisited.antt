@@ -1,5 +1,6 @@
 -- A code with the nodes of a tree of lines is visited as the tree is, in the order of its nodes and of its blocks.
-use Rattle.std.proofs.Common.{◌≡◌, ℕ, zero, suc, ◌+◌, ◌≤◌, Bool, true, false, List, [], ◌∷◌, ◌++◌, length, map, flat_map, zip, Option, Some, None, refl, sym, ap, ap₂, subst, ◌∙◌, append_assoc, arith}
+use Rattle.std.proofs.Common.{◌≡◌, ℕ, zero, suc, ◌+◌, ◌≤◌, Bool, true, false, List, [], ◌∷◌, ◌++◌, length, map, flat_map, zip, Option, Some, None, refl, sym}
+use Rattle.std.proofs.Common.{ap, ap₂, subst, ◌∙◌, append_assoc, arith}
 use Rattle.std.specs.Prelude.{slice_get}
 use Rattle.std.proofs.lemmas.List.{append-nil, length-append}
 use Rattle.std.proofs.lemmas.List.Concat.{flat_map-cons, flat_map-append}
@@ -40,11 +41,15 @@ longer : (front : List Node) (n : Node) (x : ℕ) → length front ≡ x → len
 longer front n x l = length-append front (n ∷ []) ∙ omega arith
 
 -- a code whose list has the tree's nodes in a row has them at their places
-pub holds : (q : Known) (c : Code) (t : Tree) (b x k : ℕ) (front back : List Node) → c.nodes ≡ front ++ (tree_nodes q t b k ++ back) → length front ≡ x → Holds c q t b x k
+pub holds : (q : Known) (c : Code) (t : Tree) (b x k : ℕ) (front back : List Node) → c.nodes ≡ front ++ (tree_nodes q t b k ++ back) → length front ≡ x
+    → Holds c q t b x k
 holds q c Done b x k front back e l = tt
 holds q c (Plain s r) b x k front back e l =
-    let n = node_plain q b s in
-    (node_at c x front n (tree_nodes q r b k ++ back) e l, holds q c r b (suc x) k (front ++ n ∷ []) back (e ∙ sym (append_assoc front (n ∷ []) (tree_nodes q r b k ++ back))) (longer front n x l))
+    let n = node_plain q b s in (
+      node_at c x front n (tree_nodes q r b k ++ back) e l,
+      holds q c r b (suc x) k (front ++ n ∷ []) back (e
+          ∙ sym (append_assoc front (n ∷ []) (tree_nodes q r b k ++ back))) (longer front n x l),
+    )
 holds q c (Branch s y t n e r) b x k front back same l =
     let j = suc k + opened (shape y) in
     let u = suc j + opened (shape n) in
@@ -57,9 +62,11 @@ holds q c (Branch s y t n e r) b x k front back same l =
     let f3 : List Node = f2 ++ ns in
     let l1 : length f1 ≡ suc x = longer front node x l in
     let l2 : length f2 ≡ suc x + size (shape y) = length-append f1 ys ∙ ap (λ z. z + length ys) l1 ∙ ap (λ z. suc x + z) (length-tree_nodes q y k (suc k)) in
-    let l3 : length f3 ≡ suc x + size (shape y) + size (shape n) = length-append f2 ns ∙ ap (λ z. z + length ns) l2 ∙ ap (λ z. suc x + size (shape y) + z) (length-tree_nodes q n j (suc j)) in
+    let l3 : length f3 ≡ suc x + size (shape y) + size (shape n) = length-append f2 ns ∙ ap (λ z. z + length ns) l2
+    ∙ ap (λ z. suc x + size (shape y) + z) (length-tree_nodes q n j (suc j)) in
     let e0 : (ys ++ (ns ++ rs)) ++ back ≡ ys ++ (ns ++ (rs ++ back)) = append_assoc ys (ns ++ rs) back ∙ ap (λ z. ys ++ z) (append_assoc ns rs back) in
-    let e1 : c.nodes ≡ f1 ++ (ys ++ (ns ++ (rs ++ back))) = same ∙ ap (λ z. front ++ node ∷ z) e0 ∙ sym (append_assoc front (node ∷ []) (ys ++ (ns ++ (rs ++ back)))) in
+    let e1 : c.nodes ≡ f1 ++ (ys ++ (ns ++ (rs ++ back))) = same ∙ ap (λ z. front ++ node ∷ z) e0
+    ∙ sym (append_assoc front (node ∷ []) (ys ++ (ns ++ (rs ++ back)))) in
     let e2 : c.nodes ≡ f2 ++ (ns ++ (rs ++ back)) = e1 ∙ sym (append_assoc f1 ys (ns ++ (rs ++ back))) in
     let e3 : c.nodes ≡ f3 ++ (rs ++ back) = e2 ∙ sym (append_assoc f2 ns (rs ++ back)) in (
       node_at c x front node ((ys ++ (ns ++ rs)) ++ back) same l,
@@ -99,7 +106,8 @@ in_row x (suc m) = x ∷ in_row (suc x) m
 
 row-split : (x m n : ℕ) → in_row x (m + n) ≡ in_row x m ++ in_row (x + m) n
 row-split x zero n = let a : 0 + n ≡ n = omega arith in let b : x + 0 ≡ x = omega arith in rw (a, b) refl
-row-split x (suc m) n = let a : suc m + n ≡ suc (m + n) = omega arith in let b : x + suc m ≡ suc x + m = omega arith in rw (a, b) (ap (λ xs. x ∷ xs) (row-split (suc x) m n))
+row-split x (suc m) n = let a : suc m + n ≡ suc (m + n) = omega arith in let b : x + suc m
+    ≡ suc x + m = omega arith in rw (a, b) (ap (λ xs. x ∷ xs) (row-split (suc x) m n))
 
 pub below-row : (n : ℕ) → below n ≡ in_row 0 n
 below-row zero = refl
@@ -117,9 +125,11 @@ nodes-in-row (Split y n r) x =
     let v = suc x + size y + size n in
     let behind = visits_of n u ++ AtEnd x ∷ [] in
     let ends : flat_map node_visited (AtEnd x ∷ []) ≡ [] = flat_map-cons node_visited (AtEnd x) [] in
-    let other : flat_map node_visited behind ≡ in_row u (size n) = flat_map-append node_visited (visits_of n u) (AtEnd x ∷ []) ∙ ap₂ (λ a b. a ++ b) (nodes-in-row n u) ends ∙ append-nil (in_row u (size n)) in
+    let other : flat_map node_visited behind ≡ in_row u (size n) = flat_map-append node_visited (visits_of n u) (AtEnd x ∷ [])
+    ∙ ap₂ (λ a b. a ++ b) (nodes-in-row n u) ends ∙ append-nil (in_row u (size n)) in
     let middle : flat_map node_visited (visits_of y (suc x) ++ (AtElse x ∷ behind)) ≡ in_row (suc x) (size y) ++ in_row u (size n) =
-    flat_map-append node_visited (visits_of y (suc x)) (AtElse x ∷ behind) ∙ ap₂ (λ a b. a ++ b) (nodes-in-row y (suc x)) (flat_map-cons node_visited (AtElse x) behind ∙ other) in
+    flat_map-append node_visited (visits_of y (suc x)) (AtElse x ∷ behind)
+    ∙ ap₂ (λ a b. a ++ b) (nodes-in-row y (suc x)) (flat_map-cons node_visited (AtElse x) behind ∙ other) in
     flat_map-cons node_visited (AtNode x) ((visits_of y (suc x) ++ (AtElse x ∷ behind)) ++ visits_of r v)
     ∙ ap (λ l. x ∷ l) (flat_map-append node_visited (visits_of y (suc x) ++ (AtElse x ∷ behind)) (visits_of r v) ∙ ap₂ (λ a b. a ++ b) middle (nodes-in-row r v)
     ∙ append_assoc (in_row (suc x) (size y)) (in_row u (size n)) (in_row v (size r))

@@ -1,5 +1,6 @@
 -- The words of a line are those of its sentence.
-use Rattle.std.proofs.Common.{◌≡◌, ℕ, suc, ◌-◌, ◌+◌, ◌≤◌, Bool, true, false, ◌&&◌, ◌==◌, List, [], ◌∷◌, ◌++◌, length, take, Option, Some, None, refl, sym, ap, ap₂, subst, ◌∙◌, true≢false, arith}
+use Rattle.std.proofs.Common.{◌≡◌, ℕ, suc, ◌-◌, ◌+◌, ◌≤◌, Bool, true, false, ◌&&◌, ◌==◌, List, [], ◌∷◌, ◌++◌, length, take, Option, Some, None, refl, sym, ap}
+use Rattle.std.proofs.Common.{ap₂, subst, ◌∙◌, true≢false, arith}
 use Rattle.std.specs.Prelude.{codes, slice_index, decimal}
 use Rattle.std.proofs.lemmas.List.{append-nil}
 use Rattle.std.proofs.lemmas.Fmt.{decimal_digit}
@@ -13,7 +14,8 @@ use Rattle.tam_graph.proofs.SameBytes.{same_equal}
 use Rattle.tam_read.specs.declared.form.Verb.{Verb}
 use Rattle.tam_read.specs.declared.form.Role.{Role}
 use Rattle.tam_read.specs.declared.form.Role.TheVariants as role
-use Rattle.tam_read.specs.Sentences.{Sentence, verb_text, verb_called, all_verbs, makes, roles_of, same_role, has_form, has_depth, without_depth, name_made, said_by, said_named, sentence_of}
+use Rattle.tam_read.specs.Sentences.{Sentence, verb_text, verb_called, all_verbs, makes, roles_of, same_role, has_form, has_depth, without_depth, name_made}
+use Rattle.tam_read.specs.Sentences.{said_by, said_named, sentence_of}
 use Rattle.tam_read.specs.Building.{depth_written, depth_made}
 
 -- the words of a sentence
@@ -33,7 +35,9 @@ pub record IsSaidSo (ws : List (List ℕ)) (s : Sentence) : Type 0 where
 said-by : (name : List (List ℕ)) (t : List ℕ) (rest : List (List ℕ)) (s : Sentence) → said_by name t rest ≡ s ∷ [] → IsSaidSo (with_name name (t ∷ rest)) s
 said-by name t rest s e = at (verb_called t) refl (subst (λ z. z ≡ s ∷ []) refl e)
   where
-    by_form : (v : Verb) (b : Bool) → has_form name rest v ≡ b → t ≡ verb_text v → (elim b as (λ _. List Sentence) [ true ↦ record { name = name; verb = v; rest = rest } ∷ [] | false ↦ [] ]) ≡ s ∷ [] → IsSaidSo (with_name name (t ∷ rest)) s
+    by_form : (v : Verb) (b : Bool) → has_form name rest v ≡ b → t ≡ verb_text v
+        → (elim b as (λ _. List Sentence) [ true ↦ record { name = name; verb = v; rest = rest } ∷ [] | false ↦ [] ]) ≡ s ∷ []
+        → IsSaidSo (with_name name (t ∷ rest)) s
     by_form v false f w e = absurd cc
     by_form v true f w e =
         let whole : Sentence = record { name = name; verb = v; rest = rest } in

@@ -50,7 +50,8 @@ name_given (n ∷ ns) = some_if (is_name n) n
 
 -- the kind that a line says
 abbrev pub kind_said : Known → ℕ → Sentence → Kind
-kind_said k next s = kind_made s.verb (first_number k (roles_of s.verb) s.rest) (second_number k (roles_of s.verb) s.rest) (third_number k (roles_of s.verb) s.rest) next
+kind_said k next s = kind_made s.verb (first_number k (roles_of s.verb) s.rest) (second_number k (roles_of s.verb) s.rest)
+    (third_number k (roles_of s.verb) s.rest) next
 
 -- the node in a block
 abbrev pub node_said : Known → ℕ → ℕ → Sentence → Node

@@ -1,11 +1,13 @@
 -- The faults of a text. The first pass goes by lines, given the lines before; the second wants that what is named is there.
 -- A text reads as a graph exactly where it has none, and is refused at the first.
-use Rattle.std.specs.Prelude.{ℕ, ◌+◌, Bool, true, false, ◌&&◌, ◌||◌, not, ◌==◌, nat_lt, List, [], ◌∷◌, ◌++◌, length, map, codes, flat_map, filter, count_by, Some, None, take}
+use Rattle.std.specs.Prelude.{ℕ, ◌+◌, Bool, true, false, ◌&&◌, ◌||◌, not, ◌==◌, nat_lt, List, [], ◌∷◌, ◌++◌, length, map, codes, flat_map, filter, count_by}
+use Rattle.std.specs.Prelude.{Some, None, take}
 use Rattle.tam_word.specs.Lists.{all_of, any_of, where_so, same_list, same_bytes}
 use Rattle.tam_graph.specs.Lines.{lines_of, words_of, are_good_bytes, is_some_of}
 use Rattle.tam_graph.specs.Names.{is_name}
 use Rattle.tam_read.specs.declared.cause.ReadCause.{ReadCause}
-use Rattle.tam_read.specs.declared.cause.ReadCause.TheVariants.{BadByte, BadHead, BadLine, BadName, BadNumber, BadNesting, TwiceNamed, TooMany, Ended, UnknownName, UnknownCode}
+use Rattle.tam_read.specs.declared.cause.ReadCause.TheVariants.{BadByte, BadHead, BadLine, BadName, BadNumber, BadNesting, TwiceNamed, TooMany, Ended}
+use Rattle.tam_read.specs.declared.cause.ReadCause.TheVariants.{UnknownName, UnknownCode}
 use Rattle.tam_read.specs.declared.cause.Limit.{Limit}
 use Rattle.tam_read.specs.declared.cause.Limit.TheVariants.{Codes, CodeVertices, BlockVertices, Nesting}
 use Rattle.tam_read.specs.declared.form.Verb.{Verb}
@@ -14,7 +16,8 @@ use Rattle.tam_read.specs.declared.form.Role.{Role}
 use Rattle.tam_read.specs.declared.form.Role.TheVariants as role
 use Rattle.tam_read.specs.declared.block.Opening.{Opening}
 use Rattle.tam_read.specs.declared.block.Opening.TheVariants.{ByCode, ByCond, ByElse}
-use Rattle.tam_read.specs.Sentences.{Sentence, sentence_of, roles_of, vertices_of, makes, same_role, is_code, is_cond, each_token, is_name_for, is_number_for, names_made, code_begun}
+use Rattle.tam_read.specs.Sentences.{Sentence, sentence_of, roles_of, vertices_of, makes, same_role, is_code, is_cond, each_token, is_name_for, is_number_for}
+use Rattle.tam_read.specs.Sentences.{names_made, code_begun}
 
 -- ---- where a sentence stands. `before` are the sentences before it, the nearest first.
 
@@ -159,7 +162,8 @@ is_known_code all r t = true
 
 -- the faults of a sentence among those of its code and of the text
 abbrev pub faults_of_names : List Sentence → List Sentence → Sentence → List ReadCause
-faults_of_names all code s = where_so (not (each_token (is_known_node code) (roles_of s.verb) s.rest)) UnknownName ++ where_so (not (each_token (is_known_code all) (roles_of s.verb) s.rest)) UnknownCode
+faults_of_names all code s = where_so (not (each_token (is_known_node code) (roles_of s.verb) s.rest)) UnknownName ++ where_so
+    (not (each_token (is_known_code all) (roles_of s.verb) s.rest)) UnknownCode
 
 -- the sentences of the lines from number n on, each with its line
 abbrev pub said_from : ℕ → List (List ℕ) → List (ℕ × Sentence)
@@ -173,7 +177,8 @@ sayings ss = map (λ p. p.1) ss
 -- the faults of sentences, where others stand before them, the nearest first, and `all` in the text
 abbrev pub second_pass : List Sentence → List Sentence → List (ℕ × Sentence) → List (ℕ × ReadCause)
 second_pass all before [] = []
-second_pass all before (p ∷ ps) = map (λ c. (p.0, c)) (faults_of_names all (until_code before ++ (p.1 ∷ until_code (sayings ps))) p.1) ++ second_pass all (p.1 ∷ before) ps
+second_pass all before (p ∷ ps) = map (λ c. (p.0, c)) (faults_of_names all (until_code before ++ (p.1 ∷ until_code (sayings ps))) p.1) ++ second_pass all
+    (p.1 ∷ before) ps
 
 -- ---- the whole
 

@@ -96,7 +96,8 @@ all_ops = Add ∷ Sub ∷ Mul ∷ Div ∷ Divu ∷ Rem ∷ Remu ∷ And ∷ Or �
 
 abbrev pub all_verbs : List Verb
 all_verbs =
-    verb.Param ∷ verb.Const ∷ verb.Seq ∷ verb.Call ∷ verb.Arg ∷ verb.Ret ∷ verb.Give ∷ verb.Alloc ∷ verb.Fetch ∷ verb.Store ∷ verb.Cond ∷ verb.Switch ∷ verb.Merge ∷ verb.Enter
+    verb.Param ∷ verb.Const ∷ verb.Seq ∷ verb.Call ∷ verb.Arg ∷ verb.Ret ∷ verb.Give ∷ verb.Alloc ∷ verb.Fetch ∷ verb.Store ∷ verb.Cond ∷ verb.Switch
+    ∷ verb.Merge ∷ verb.Enter
     ∷ verb.Leave ∷ verb.Code ∷ verb.Else ∷ verb.End ∷ map verb.Operate all_ops
 
 -- the verb that a token writes, as a list of at most one
@@ -117,7 +118,14 @@ has_form name rest v = elim (makes v) [ None ↦ length name == 0 | Some r ↦ l
 
 -- the sentence of a token in a verb's place, as a list of at most one
 abbrev pub said_by : List (List ℕ) → List ℕ → List (List ℕ) → List Sentence
-said_by name t rest = elim (verb_called t) [ [] ↦ [] | v ∷ vs ↦ elim (has_form name rest v) [ true ↦ record { name = name; verb = v; rest = rest } ∷ [] | false ↦ [] ] ]
+said_by name t rest = elim (verb_called t) [
+  | [] ↦ []
+  | v ∷ vs ↦ elim (has_form name rest v) [
+    | true ↦ record { name = name; verb = v; rest = rest }
+        ∷ []
+    | false ↦ []
+  ]
+]
 
 -- what is said behind a name and `=`
 abbrev pub said_named : List ℕ → List (List ℕ) → List Sentence
@@ -162,7 +170,8 @@ is_number_for r t = true
 
 -- the last two bytes are `:1`, `:2` or `:3`
 abbrev pub has_depth : List ℕ → Bool
-has_depth t = nat_le 2 (length t) && ((slice_index t (length t - 2) == 58) && (nat_le 49 (slice_index t (length t - 1)) && nat_le (slice_index t (length t - 1)) 51))
+has_depth t = nat_le 2 (length t) && ((slice_index t (length t - 2) == 58) &&
+    (nat_le 49 (slice_index t (length t - 1)) && nat_le (slice_index t (length t - 1)) 51))
 
 -- a name without its depth
 abbrev pub without_depth : List ℕ → List ℕ

@@ -33,4 +33,5 @@ returns-in-Err-clause-refused c =
     let rest = c.loop-rest.rest.now in
     let others : List Line = take (length rest - 1) (drop 1 rest) in
     let parts : rest ≡ line ∷ others = first-and-others rest line c.in-len1-up.len_at_least c.line-item.is in
-    refused-here k line rest others parts (faults_within k (map numbered c.args.lines.now)) c.in-Err.refused c.loop-rest.invariant.faults c.in-Err.ensures.refused
+    refused-here k line rest others parts
+    (faults_within k (map numbered c.args.lines.now)) c.in-Err.refused c.loop-rest.invariant.faults c.in-Err.ensures.refused

@@ -13,4 +13,7 @@ code_of-requires c =
     let first : rest ≡ part ∷ others = first-and-others rest part c.in-len1-up.len_at_least c.part-item.is in
     let whole : c.loop-rest.codes.items ++ (code_of_part part ∷ map code_of_part others) ≡ map code_of_part c.args.parts.now =
     ap (λ ps. c.loop-rest.codes.items ++ map code_of_part ps) (sym first) ∙ c.loop-rest.invariant in
-    record { of_text = code-of-text c.loop-rest.codes.items (code_of_part part) (map code_of_part others) (map code_of_part c.args.parts.now) whole c.requires.of_text }
+    record {
+      of_text = code-of-text c.loop-rest.codes.items (code_of_part part) (map code_of_part others)
+          (map code_of_part c.args.parts.now) whole c.requires.of_text;
+    }

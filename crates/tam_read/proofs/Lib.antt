@@ -37,3 +37,4 @@ pub mod BlockLimits
 pub mod NamesDiffer
 pub mod OfText
 pub mod Assembled
+pub mod WrittenTrees

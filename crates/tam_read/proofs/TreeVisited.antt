@@ -104,7 +104,7 @@ abbrev pub in_row : ℕ → ℕ → List ℕ
 in_row x zero = []
 in_row x (suc m) = x ∷ in_row (suc x) m
 
-row-split : (x m n : ℕ) → in_row x (m + n) ≡ in_row x m ++ in_row (x + m) n
+pub row-split : (x m n : ℕ) → in_row x (m + n) ≡ in_row x m ++ in_row (x + m) n
 row-split x zero n = let a : 0 + n ≡ n = omega arith in let b : x + 0 ≡ x = omega arith in rw (a, b) refl
 row-split x (suc m) n = let a : suc m + n ≡ suc (m + n) = omega arith in let b : x + suc m
     ≡ suc x + m = omega arith in rw (a, b) (ap (λ xs. x ∷ xs) (row-split (suc x) m n))

@@ -12,6 +12,7 @@ use Rattle.tam_read.specs.Placed.{lines_in}
 use Rattle.tam_read.proofs.ReadCodes.{codes_read}
 use Rattle.tam_read.proofs.OfText.{faultless-reads}
 
+-- an element behind others stands at their number
 at-front : (front : List Code) (c : Code) (back : List Code) → slice_get (front ++ c ∷ back) (length front) ≡ Some c
 at-front [] c back = refl
 at-front (f ∷ fs) c back = at-front fs c back
@@ -23,10 +24,12 @@ code-of-text front c back all parts of =
     let is : code_of (graph_of all) (length front) ≡ c = ap (λ cs. or_code (slice_get cs (length front))) (sym parts) ∙ ap or_code (at-front front c back) in
     (length all, of.few_codes, subst (λ d. IsCodeOfText (length all) d) is (of.each_code (length front) (omega arith)))
 
+-- the codes of what was read
 codes-of-parts : (ps : List Fields) → map code_of_part ps ≡ map (λ p. p.code) (map part ps)
 codes-of-parts [] = refl
 codes-of-parts (p ∷ ps) = ap (λ cs. code_of_part p ∷ cs) (codes-of-parts ps)
 
+-- and their lines
 lines-of-parts : (ps : List Fields) → map lines_of_part ps ≡ map (λ p. (p.line, p.lines)) (map part ps)
 lines-of-parts [] = refl
 lines-of-parts (p ∷ ps) = ap (λ ls. lines_of_part p ∷ ls) (lines-of-parts ps)

@@ -35,17 +35,21 @@ Owned c (Branch s y t n e r) x k =
     × Owned c n (suc x + size (shape y)) (suc (suc k + opened (shape y)))
     × Owned c r (suc x + size (shape y) + size (shape n)) (suc (suc k + opened (shape y)) + opened (shape n))
 
+-- an owner behind others stands at their number
 at_front : (front : List (Option ℕ)) (o : Option ℕ) (back : List (Option ℕ)) → slice_get (front ++ o ∷ back) (length front) ≡ Some o
 at_front [] o back = refl
 at_front (f ∷ fs) o back = at_front fs o back
 
+-- so does one in a row of owners
 owner_at : (c : Code) (k : ℕ) (front : List (Option ℕ)) (o : Option ℕ) (back : List (Option ℕ)) → c.owners ≡ front ++ o ∷ back → length front ≡ k
     → slice_get c.owners k ≡ Some o
 owner_at c k front o back e l = ap (λ os. slice_get os k) e ∙ ap (slice_get (front ++ o ∷ back)) (sym l) ∙ at_front front o back
 
+-- a row with one more is longer by one
 longer : (front : List (Option ℕ)) (o : Option ℕ) (k : ℕ) → length front ≡ k → length (front ++ o ∷ []) ≡ suc k
 longer front o k l = length-append front (o ∷ []) ∙ omega arith
 
+-- the owners in a row stand at the numbers of the tree's blocks
 pub owns : (c : Code) (t : Tree) (x k : ℕ) (front back : List (Option ℕ)) → c.owners ≡ front ++ (tree_owners t x ++ back) → length front ≡ k → Owned c t x k
 owns c Done x k front back e l = tt
 owns c (Plain s r) x k front back e l = owns c r (suc x) k front back e l
@@ -83,6 +87,7 @@ owns c (Branch s y t n e r) x k front back same l =
 abbrev pub IsWithin : Code → ℕ → ℕ → Type 0
 IsWithin c b h = (f : ℕ) → depth_of_block f c b ≤ h
 
+-- a branch stands in one block more than its cond
 deeper : (c : Code) (b d x h : ℕ) → IsWithin c b h → slice_get c.owners d ≡ Some (Some x) → block_at c x ≡ b → IsWithin c d (suc h)
 deeper c b d x h w o e zero = omega arith
 deeper c b d x h w o e (suc f) = let own : owner_of c d ≡ x ∷ [] = ap one_or_none o in rw (depth_of_block, own, e) (let k = w f in omega arith)
@@ -121,6 +126,7 @@ abbrev pub total : (ℕ → ℕ) → List ℕ → ℕ
 total f [] = 0
 total f (x ∷ xs) = f x + total f xs
 
+-- the sum is the total
 pub total-sum : (f : ℕ → ℕ) (xs : List ℕ) → sum_by f xs ≡ total f xs
 total-sum f [] = refl
 total-sum f (x ∷ xs) = sum_by-cons f x xs ∙ ap (λ n. f x + n) (total-sum f xs)
@@ -130,6 +136,7 @@ abbrev pub where_true : Bool → ℕ → ℕ
 where_true true v = v
 where_true false v = 0
 
+-- the total of those that pass is that of all, each counted where it passes
 total-filter : (f : ℕ → ℕ) (test : ℕ → Bool) (xs : List ℕ) → total f (filter test xs) ≡ total (λ x. where_true (test x) (f x)) xs
 total-filter f test [] = refl
 total-filter f test (x ∷ xs) = go (test x) refl (total-filter f test xs)
@@ -139,6 +146,7 @@ total-filter f test (x ∷ xs) = go (test x) refl (total-filter f test xs)
     go true e i = rw (filter, e) (ap (λ n. f x + n) i)
     go false e i = rw (filter, e) (i ∙ omega arith)
 
+-- the total of a row is that of its two parts
 pub total-split : (f : ℕ → ℕ) (x m n : ℕ) → total f (in_row x (m + n)) ≡ total f (in_row x m) + total f (in_row (x + m) n)
 total-split f x zero n = let a : 0 + n ≡ n = omega arith in let b : x + 0 ≡ x = omega arith in rw (a, b) (omega arith)
 total-split f x (suc m) n =
@@ -154,6 +162,7 @@ counted d (Branch s y t n e r) b k =
     where_true (b == d) 1 + (counted d y k (suc k) + (counted d n (suc k + opened (shape y)) (suc (suc k + opened (shape y))) + counted d r b
     (suc (suc k + opened (shape y)) + opened (shape n))))
 
+-- a plain verb's kind has the verb's vertices
 vertices-made : (v : Verb) (x y z n : ℕ) → is_plain_verb v ≡ true → (elim (is_split (kind_made v x y z n)) [ true ↦ 2 | false ↦ 1 ]) ≡ vertices_of v
 vertices-made verb.Code x y z n e = absurd (true≢false (sym e))
 vertices-made verb.Cond x y z n e = absurd (true≢false (sym e))
@@ -165,6 +174,7 @@ vertices-made v x y z n e = refl
 abbrev added : Code → ℕ → ℕ → ℕ
 added c d x = where_true (block_at c x == d) (vertices_at c x)
 
+-- the vertices of block d among a tree's nodes
 pub tree-counted : (c : Code) (q : Known) (d : ℕ) (t : Tree) (b x k : ℕ) → Fits t → Holds c q t b x k
     → total (λ x. where_true (block_at c x == d) (vertices_at c x)) (in_row x (size (shape t))) ≡ counted d t b k
 tree-counted c q d Done b x k f h = refl
@@ -256,6 +266,7 @@ outer-few t h bound = let i = own-few 0 t 1 h 0 (omega arith) (omega arith) boun
 
 -- ---- all blocks together
 
+-- a number before a row isn't in it
 total-none : (b v n m : ℕ) → b < n → total (λ d. where_true (b == d) v) (in_row n m) ≡ 0
 total-none b v n zero lt = refl
 total-none b v n (suc m) lt =
@@ -263,6 +274,7 @@ total-none b v n (suc m) lt =
     let i = total-none b v (suc n) m (omega arith) in
     rw (total, off) (omega (arith, i))
 
+-- a number is in a row at most once
 total-once : (b v n m : ℕ) → total (λ d. where_true (b == d) v) (in_row n m) ≤ v
 total-once b v n zero = omega arith
 total-once b v n (suc m) = go (b == n) refl (total-once b v (suc n) m)
@@ -272,10 +284,12 @@ total-once b v n (suc m) = go (b == n) refl (total-once b v (suc n) m)
     go false e i = rw e (omega (arith, i))
     go true e i = let is : b ≡ n = number-eq b n e in let z = total-none b v (suc n) m (omega arith) in rw e (omega (arith, z))
 
+-- the total of sums is the sum of totals
 total-both : (f g : ℕ → ℕ) (xs : List ℕ) → total (λ d. f d + g d) xs ≡ total f xs + total g xs
 total-both f g [] = refl
 total-both f g (x ∷ xs) = let i = total-both f g xs in omega (arith, i)
 
+-- the vertices of lines one behind the other
 pub vertices-append : (xs ys : List Sentence) → vertices (xs ++ ys) ≡ vertices xs + vertices ys
 vertices-append [] ys = omega arith
 vertices-append (x ∷ xs) ys = let i = vertices-append xs ys in omega (arith, i)

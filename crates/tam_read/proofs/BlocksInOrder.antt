@@ -33,9 +33,11 @@ plain-opens : (x : ℕ) (k : Kind) → is_plain k ≡ true → (elim k as (λ _.
 plain-opens x (kind.Cond p y n) e = absurd cc
 plain-opens x k e = refl
 
+-- a node that is no cond opens none
 plain-opened : (c : Code) (x : ℕ) → is_plain (kind_at c x) ≡ true → opened_by c (AtNode x) ≡ []
 plain-opened c x e = plain-opens x (kind_at c x) e
 
+-- a cond opens its then block, and its `else` its else block
 cond-opened : (c : Code) (x p y n : ℕ) → kind_at c x ≡ kind.Cond p y n → (opened_by c (AtNode x) ≡ (y, Some x) ∷ [])
     × (opened_by c (AtElse x) ≡ (n, Some x) ∷ [])
 cond-opened c x p y n e = (rw (opened_by, e) refl, rw (opened_by, e) refl)

@@ -22,6 +22,7 @@ use Rattle.tam_read.proofs.ReadCodes.{body_lines, body-no-code}
 
 -- ---- a limit isn't passed
 
+-- where none passes, this one doesn't
 none-passes : (f : Limit → Bool) (ls : List Limit) (l : Limit) → filter f ls ≡ [] → In l ls → f l ≡ false
 none-passes f ls l e i = go (f l) refl
   where
@@ -29,12 +30,14 @@ none-passes f ls l e i = go (f l) refl
     go false p = p
     go true p = absurd (subst (λ ms. In l ms) e (filter-in f l ls i p))
 
+-- each limit is looked at
 in-limits : (l : Limit) → In l (Codes ∷ CodeVertices ∷ BlockVertices ∷ Nesting ∷ [])
 in-limits Codes = inl refl
 in-limits CodeVertices = inr (inl refl)
 in-limits BlockVertices = inr (inr (inl refl))
 in-limits Nesting = inr (inr (inr (inl refl)))
 
+-- a line without a fault passes no limit
 pub limit-kept : (before : List Sentence) (s : Sentence) (l : Limit) → faults_of_sentence before s ≡ [] → passes before s l ≡ false
 limit-kept before s l e = none-passes (passes before s) (Codes ∷ CodeVertices ∷ BlockVertices ∷ Nesting ∷ []) l
     (map-none TooMany _ (clean-parts before s e).within) (in-limits l)
@@ -66,6 +69,7 @@ own_after Done v = v
 own_after (Plain s r) v = own_after r (vertices_of s.verb + v)
 own_after (Branch s y t n e r) v = own_after r (1 + v)
 
+-- lines put before others, in two parts
 pub put-both : (before xs ys : List Sentence) → put_before before (xs ++ ys) ≡ put_before (put_before before xs) ys
 put-both before [] ys = refl
 put-both before (x ∷ xs) ys = put-both (x ∷ before) xs ys
@@ -78,6 +82,7 @@ pub record IsBounded (t : Tree) (before : List Sentence) (o : Open) (os : List O
   pub bounded : Bounded t (length os) (vertices o.own)
   pub clean : AreClean (put_before before (flat t)) rest
 
+-- a plain line stands in the innermost block
 plain-open : (s : Sentence) (v : Verb) (o : Open) (os : List Open) → is_plain_verb v ≡ true
     → open_behind s v (o ∷ os) ≡ record { opening = o.opening; own = s ∷ o.own } ∷ os
 plain-open s verb.Code o os e = absurd cc
@@ -90,6 +95,7 @@ plain-open s v o os e = refl
 abbrev owned : Sentence → Open → Open
 owned s o = record { opening = o.opening; own = s ∷ o.own }
 
+-- a line with a vertex leaves its block at most 128
 within-block : (before : List Sentence) (s : Sentence) (o : Open) (os : List Open) → faults_of_sentence before s ≡ [] → open_after before ≡ o ∷ os
     → nat_lt 0 (vertices_of s.verb) ≡ true → vertices_of s.verb + vertices o.own ≤ 128
 within-block before s o os c e some =
@@ -97,6 +103,7 @@ within-block before s o os c e some =
     second-fails (nat_lt 0 (vertices_of s.verb)) (nat_lt 128 (vertices_of s.verb + vertices o.own)) some (rw e at (limit-kept before s BlockVertices c)) in
     ltb-false 128 (vertices_of s.verb + vertices o.own) h
 
+-- a cond stands in at most 16 blocks
 within-nesting : (before : List Sentence) (s : Sentence) (o : Open) (os : List Open) → faults_of_sentence before s ≡ [] → open_after before ≡ o ∷ os
     → s.verb ≡ verb.Cond → suc (length os) ≤ 16
 within-nesting before s o os c e is =
@@ -104,6 +111,7 @@ within-nesting before s o os c e is =
     (rw e at (limit-kept before s Nesting c)) in
     ltb-false 16 (suc (length os)) h
 
+-- clean lines of a tree keep it within the limits
 pub tree-bounded : (t : Tree) → Fits t → (before : List Sentence) (o : Open) (os : List Open) (rest : List Sentence) → open_after before ≡ o ∷ os
     → AreClean before (flat t ++ rest) → IsBounded t before o os rest
 tree-bounded Done f before o os rest e c = record { last = o; opens = e; own = refl; bounded = tt; clean = c }
@@ -156,6 +164,7 @@ pub record IsCleanCode (d : CodeLines) : Type 0 where
   pub rest : List Sentence
   pub clean : AreClean before (lines_of_code d ++ rest)
 
+-- the first line of a code opens its block
 head-opens : (d : CodeLines) (before : List Sentence) → open_after before ≡ [] → open_after (d.head ∷ before) ≡ opened ByCode ∷ []
 head-opens d before e = ap (λ v. open_behind d.head v (open_after before)) d.begins ∙ ap (λ os. opened ByCode ∷ os) e
 

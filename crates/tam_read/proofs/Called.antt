@@ -7,6 +7,7 @@ use Rattle.tam_read.specs.declared.form.Verb.{Verb}
 use Rattle.tam_read.specs.declared.form.TheConstants.{VERBS}
 use Rattle.tam_read.specs.Sentences.{verb_text, verb_called}
 
+-- a test and then another
 test_then : (t u : Bool) → (elim t [ true ↦ u | false ↦ false ]) ≡ (t && u)
 test_then true u = refl
 test_then false u = refl
@@ -18,6 +19,7 @@ same_bytes_is [] (y ∷ ys) = refl
 same_bytes_is (x ∷ xs) [] = refl
 same_bytes_is (x ∷ xs) (y ∷ ys) = ap (λ u. elim (eqb x y) [ true ↦ u | false ↦ false ]) (same_bytes_is xs ys) ∙ test_then (eqb x y) (bytes_eq xs ys)
 
+-- a verb of another text is left out
 skip : {X : Type 0} (test : X → Bool) (t : Bool) (x : X) (xs : List X) → t ≡ false → (elim t [ true ↦ x ∷ [] | false ↦ first_of test xs ]) ≡ first_of test xs
 skip test true x xs e = absurd cc
 skip test false x xs e = refl

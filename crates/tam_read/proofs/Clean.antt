@@ -21,6 +21,7 @@ abbrev pub AreClean : List Sentence → List Sentence → Type 0
 AreClean before [] = Unit {0}
 AreClean before (s ∷ ss) = (faults_of_sentence before s ≡ []) × AreClean (s ∷ before) ss
 
+-- by the sentence of a line
 clean-said : (before ss rest : List Sentence) → length ss ≤ 1 → (elim ss as
     (λ _. List ReadCause) [ [] ↦ BadLine ∷ [] | s ∷ more ↦ faults_of_sentence before s ]) ≡ []
     → AreClean (ss ++ before) rest → AreClean before (ss ++ rest)
@@ -28,6 +29,7 @@ clean-said before [] rest one e h = absurd cc
 clean-said before (s ∷ []) rest one e h = (e, h)
 clean-said before (s ∷ t ∷ ss) rest one e h = absurd (omega arith)
 
+-- by the words of a line
 clean-words : (before : List (List (List ℕ))) (ws : List (List ℕ)) (rest : List Sentence) → faults_of_words before ws ≡ []
     → AreClean (said (filter is_some_of (ws ∷ []) ++ before)) rest → AreClean (said before) (sentence_of ws ++ rest)
 clean-words before [] rest e h = h
@@ -54,6 +56,7 @@ clean-lines last before n (line ∷ lines) e =
 
 -- ---- what a sentence without a fault has
 
+-- no fault of any kind
 pub record IsClean (before : List Sentence) (s : Sentence) : Type 0 where
   pub names : has_bad_name s ≡ false
   pub numbers : has_bad_number s ≡ false
@@ -62,6 +65,7 @@ pub record IsClean (before : List Sentence) (s : Sentence) : Type 0 where
   pub new_node : some_shared (names_made s) (flat_map names_made (until_code before)) ≡ false
   pub within : map TooMany (filter (passes before s) (Codes ∷ CodeVertices ∷ BlockVertices ∷ Nesting ∷ [])) ≡ []
 
+-- a sentence without a fault has none of each kind
 pub clean-parts : (before : List Sentence) (s : Sentence) → faults_of_sentence before s ≡ [] → IsClean before s
 clean-parts before s e =
     let a = where_so (has_bad_name s) BadName in
@@ -89,6 +93,7 @@ clean-parts before s e =
 abbrev pub Apart : List (List ℕ) → List (List ℕ) → Type 0
 Apart xs ys = (n : List ℕ) → In n xs → In n ys → ⊥
 
+-- where no name is shared, the lists are apart
 pub not-shared : (xs ys : List (List ℕ)) → some_shared xs ys ≡ false → Apart xs ys
 not-shared xs ys h n p q = true≢false (sym (in-any (λ n. any_of (same_bytes n) ys) xs n p (in-any (same_bytes n) ys n q (same_self n))) ∙ h)
 
@@ -102,6 +107,7 @@ abbrev pub NoCode : List Sentence → Type 0
 NoCode [] = Unit {0}
 NoCode (s ∷ ss) = (is_code s.verb ≡ false) × NoCode ss
 
+-- a line that begins no code stands in its code
 until-same : (s : Sentence) (before : List Sentence) → is_code s.verb ≡ false → until_code (s ∷ before) ≡ s ∷ until_code before
 until-same s before e = rw (until_code, e) refl
 

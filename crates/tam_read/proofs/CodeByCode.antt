@@ -55,6 +55,7 @@ pub record AreCut (ps : Numbered) : Type 0 where
   pub fewer : length (rest_of ps) ≤ length ps
   pub same : pieces ps ≡ pieces (rest_of ps)
 
+-- lines are cut before the next code
 pub are-cut : (ps : Numbered) → AreCut ps
 are-cut [] = record { parts = refl; body = tt; rest = tt; fewer = omega arith; same = refl }
 are-cut (p ∷ ps) = go (is_code p.1.verb) refl (are-cut ps)
@@ -75,6 +76,7 @@ are-cut (p ∷ ps) = go (is_code p.1.verb) refl (are-cut ps)
       same = rw (pieces, rest_of, e) c.same;
     }
 
+-- nothing stands before a code that begins
 none-until : (ss : List Sentence) → Starts ss → until_code ss ≡ []
 none-until [] h = refl
 none-until (s ∷ ss) h = until-here s ss h
@@ -84,6 +86,7 @@ pub clean-front : (before xs ys : List Sentence) → AreClean before (xs ++ ys) 
 clean-front before [] ys c = tt
 clean-front before (x ∷ xs) ys c = (c.0, clean-front (x ∷ before) xs ys c.1)
 
+-- and those behind
 pub clean-back : (before xs ys : List Sentence) → AreClean before (xs ++ ys) → AreClean (put_before before xs) ys
 clean-back before [] ys c = c
 clean-back before (x ∷ xs) ys c = clean-back (x ∷ before) xs ys c.1

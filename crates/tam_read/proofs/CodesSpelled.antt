@@ -40,10 +40,12 @@ use Rattle.tam_read.proofs.Entered.{found-in, IsEntered, tree-entered, no-entry}
 
 -- ---- nodes of a name
 
+-- an element of a list of one is that one
 only-name : (n m : List ℕ) → In n (m ∷ []) → m ≡ n
 only-name n m (inl e) = e
 only-name n m (inr k) = absurd k
 
+-- where all of one are names, it is one
 alone-named : (m : List ℕ) → all_of is_name (m ∷ []) ≡ true → is_name m ≡ true
 alone-named m h = go (is_name m) refl
   where
@@ -63,10 +65,12 @@ entered-name c q ss n m e good =
 
 -- ---- codes of a name
 
+-- the one name that is begun
 only-begun : (n : List ℕ) (rest : List (List ℕ)) → In n (take 1 rest) → or_nameless (take 1 rest) ≡ n
 only-begun n [] i = absurd i
 only-begun n (m ∷ rest) i = only-name n m i
 
+-- the name that a line begins is its first
 begun-by : (n : List ℕ) (s : Sentence) → In n (code_begun s) → or_nameless (code_begun s) ≡ n
 begun-by n s i = go (is_code s.verb) refl
   where
@@ -74,13 +78,16 @@ begun-by n s i = go (is_code s.verb) refl
     go true e = rw (code_begun, e) (only-begun n s.rest (rw (code_begun, e) at i))
     go false e = absurd (rw (code_begun, e) at i)
 
+-- a line that begins no code leaves the number
 plain-behind : (v : Verb) (n : ℕ) → is_code v ≡ false → code_behind v n ≡ n
 plain-behind verb.Code n e = absurd (true≢false e)
 plain-behind v n e = refl
 
+-- one that does counts one more
 code-behind : (v : Verb) (n : ℕ) → v ≡ verb.Code → code_behind v n ≡ suc n
 code-behind v n e = ap (λ w. code_behind w n) e ∙ omega arith
 
+-- a line that begins no code enters none
 none-begun : (s : Sentence) (n : ℕ) → is_code s.verb ≡ false → code_entries n s ≡ []
 none-begun s n e = rw (code_entries, code_begun, e) refl
 
@@ -99,6 +106,7 @@ pub record IsCodeAt (ds : List CodeLines) (first : ℕ) (t : List ℕ) (m : Made
   pub there : slice_get ds place ≡ Some code
   pub named : or_nameless (code_begun code.head) ≡ t
 
+-- an entry of a code's name has its number
 pub code-entered : (ds : List CodeLines) (first : ℕ) (t : List ℕ) (m : Made) → In (t, m) (code_list first (lines_of_codes ds)) → IsCodeAt ds first t m
 code-entered [] first t m i = absurd i
 code-entered (d ∷ ds) first t m i =
@@ -117,6 +125,7 @@ code-entered (d ∷ ds) first t m i =
     record { place = suc e.place; number = e.number ∙ omega arith; code = e.code; there = e.there; named = e.named })
     (in-append (t, m) (code_entries first d.head) (code_list (code_behind d.head.verb first) (body_lines d ++ lines_of_codes ds)) i)
 
+-- an element of an image
 get-mapped : {X Y : Type 0} (f : X → Y) (xs : List X) (k : ℕ) (x : X) → slice_get xs k ≡ Some x → slice_get (map f xs) k ≡ Some (f x)
 get-mapped f [] k x e = absurd cc
 get-mapped f (y ∷ ys) zero x e = let same : y ≡ x = cc in ap (λ z. Some (f z)) same
@@ -165,6 +174,7 @@ codes-there ds t m e =
     ap (λ n. (code_of (graph_read ds) n).name) number
     ∙ ap (λ o. (or_code o).name) (get-mapped (code_of_lines (entries_of ds)) ds w.place w.code w.there) ∙ w.named
 
+-- what names name is there
 pub are-found : (ds : List CodeLines) (d : CodeLines) → IsGoodCode (entries_of ds) d
     → AreFound (graph_read ds) (code_of_lines (entries_of ds) d) (known_of (entries_of ds) d)
 are-found ds d good = record { nodes = nodes-there (entries_of ds) d good; codes = codes-there ds }

@@ -31,6 +31,7 @@ each-alike f g h (r ∷ rs) [] = refl
 each-alike f g h (r ∷ rs) (t ∷ ts) = ap (λ b. elim b [ true ↦ each_token f rs ts | false ↦ false ]) (h r t)
     ∙ ap (λ b. elim (g r t) [ true ↦ b | false ↦ false ]) (each-alike f g h rs ts)
 
+-- the tests of nodes agree
 node-alike : (nodes : Entries) (code : List Sentence) → ((r : Role) (t : List ℕ) → is_made r (found t nodes) ≡ any_of (makes_named r t) code)
     → (r : Role) (t : List ℕ) → is_node_found nodes r t ≡ is_known_node code r t
 node-alike nodes code h role.Value t = h role.Value t
@@ -38,6 +39,7 @@ node-alike nodes code h role.Call t = h role.Call t
 node-alike nodes code h role.Cond t = h role.Cond t
 node-alike nodes code h r t = refl
 
+-- the tests of codes agree
 code-alike : (codes : Entries) (all : List Sentence) → ((t : List ℕ) → is_made role.Callee (found t codes) ≡ any_of (same_bytes t) (flat_map code_begun all))
     → (r : Role) (t : List ℕ) → is_code_found codes r t ≡ is_known_code all r t
 code-alike codes all h role.Callee t = h t
@@ -58,6 +60,7 @@ pub code-verb : (v : Verb) → is_code v ≡ true → v ≡ verb.Code
 code-verb verb.Code e = refl
 code-verb v e = absurd (true≢false (sym e))
 
+-- a line that begins a code names nothing
 no-names : (all code : List Sentence) (s : Sentence) (v : Verb) → v ≡ verb.Code
     → (where_so (not (each_token (is_known_node code) (roles_of v) s.rest)) UnknownName ++ where_so
     (not (each_token (is_known_code all) (roles_of v) s.rest)) UnknownCode) ≡ []
@@ -92,9 +95,11 @@ abbrev pub put_before : List Sentence → List Sentence → List Sentence
 put_before before [] = before
 put_before before (s ∷ ss) = put_before (s ∷ before) ss
 
+-- behind a code that begins nothing of it stands
 pub until-here : (s : Sentence) (ss : List Sentence) → is_code s.verb ≡ true → until_code (s ∷ ss) ≡ []
 until-here s ss e = rw (until_code, e) refl
 
+-- a line of a code is one of its lines
 until-on : (s : Sentence) (ss : List Sentence) → is_code s.verb ≡ false → until_code (s ∷ ss) ≡ s ∷ until_code ss
 until-on s ss e = rw (until_code, e) refl
 

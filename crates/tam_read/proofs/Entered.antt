@@ -42,6 +42,7 @@ pub record IsEntered (c : Code) (q : Known) (ss : List Sentence) (n : List ℕ) 
   pub named : In n (names_made line)
   pub role : makes line.verb ≡ Some m.role
 
+-- an entry of some lines is one of more
 wider-entered : (c : Code) (q : Known) (ss ts : List Sentence) (n : List ℕ) (m : Made) → ((s : Sentence) → In s ss → In s ts) → IsEntered c q ss n m
     → IsEntered c q ts n m
 wider-entered c q ss ts n m h e = record {
@@ -79,12 +80,15 @@ line-entered c q s x node n m h made is i = go (makes s.verb) refl
           role = e ∙ ap Some role_is;
         }
 
+-- behind a node's line the number is one more
 next-number : (v : Verb) (x : ℕ) → is_node v ≡ true → number_behind v x ≡ suc x
 next-number v x e = rw (number_behind, e) (omega arith)
 
+-- behind another line it is the same
 same-number : (v : Verb) (x : ℕ) → is_node v ≡ false → number_behind v x ≡ x
 same-number v x e = rw (number_behind, e) refl
 
+-- a line without a node enters none
 pub no-entry : (s : Sentence) (x : ℕ) → makes s.verb ≡ None → node_entries x s ≡ []
 no-entry s x e = rw (node_entries, e) refl
 

@@ -32,6 +32,7 @@ clean-there before [] s c i = absurd i
 clean-there before (t ∷ ss) s c (inl e) = (before, subst (λ z. faults_of_sentence before z ≡ []) e c.0)
 clean-there before (t ∷ ss) s c (inr i) = clean-there (t ∷ before) ss s c.1 i
 
+-- what isn't refused holds
 not-so : (t : Bool) → not t ≡ false → t ≡ true
 not-so true h = refl
 not-so false h = absurd (true≢false h)
@@ -41,6 +42,7 @@ pub names-right : (s : Sentence) → has_bad_name s ≡ false → (all_of is_nam
 names-right s e = both-true (all_of is_name (names_made s)) (each_token is_name_for (roles_of s.verb) s.rest)
     (not-so (all_of is_name (names_made s) && each_token is_name_for (roles_of s.verb) s.rest) e)
 
+-- its numbers
 pub numbers-right : (s : Sentence) → has_bad_number s ≡ false → each_token is_number_for (roles_of s.verb) s.rest ≡ true
 numbers-right s e = not-so (each_token is_number_for (roles_of s.verb) s.rest) e
 
@@ -54,12 +56,14 @@ known-right k s e =
       not-so codes (where_none (not codes) UnknownCode (none-right (where_so (not nodes) UnknownName) (where_so (not codes) UnknownCode) e)),
     )
 
+-- no line of a code without a fault has one
 within-right : (k : Known) (body : Numbered) → faults_within k body ≡ [] → (s : Sentence) → In s (sayings body) → faults_known k s ≡ []
 within-right k [] e s i = absurd i
 within-right k (p ∷ body) e s (inl same) = subst (λ z. faults_known k z ≡ []) same
     (map-none (λ c. (p.0, c)) (faults_known k p.1) (none-left (map (λ c. (p.0, c)) (faults_known k p.1)) (faults_within k body) e))
 within-right k (p ∷ body) e s (inr i) = within-right k body (none-right (map (λ c. (p.0, c)) (faults_known k p.1)) (faults_within k body) e) s i
 
+-- nor one of codes without a fault
 pieces-right : (codes : Entries) (qs : List Piece) → faults_of_pieces codes qs ≡ [] → (q : Piece) → In q qs → (s : Sentence) → In s (sayings q.body)
     → faults_known (known_in codes q.body) s ≡ []
 pieces-right codes [] e q i s j = absurd i
@@ -82,6 +86,7 @@ no-first : (fs gs : List (ℕ × ReadCause)) → (elim fs as (λ _. List (ℕ ×
 no-first [] gs e = refl
 no-first (f ∷ fs) gs e = absurd cc
 
+-- a text without a fault has none of the first pass
 pub first-faultless : (bytes : List ℕ) → faults bytes ≡ [] → first_pass (last_line bytes) [] 1 (lines_of bytes) ≡ []
 first-faultless bytes e = no-first (first_pass (last_line bytes) [] 1 (lines_of bytes)) _ e
 

@@ -18,6 +18,7 @@ length-changed_at n f [] = refl
 length-changed_at zero f (x ∷ xs) = refl
 length-changed_at (suc n) f (x ∷ xs) = ap suc (length-changed_at n f xs)
 
+-- a list with one more
 one_more : {X : Type 0} (xs : List X) (x : X) → length (xs ++ x ∷ []) ≤ length xs + 1
 one_more xs x = omega (arith, length-append xs (x ∷ []))
 

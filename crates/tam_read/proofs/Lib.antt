@@ -38,3 +38,5 @@ pub mod NamesDiffer
 pub mod OfText
 pub mod Assembled
 pub mod WrittenTrees
+pub mod WrittenCodes
+pub mod KindsAgain

@@ -106,23 +106,28 @@ line-right codes c verb.End x y z next other n h = absurd (true≢false (sym n))
 
 -- ---- words are below 2 ^ 32
 
+-- where something is given, the test holds
 some-if : {X : Type 0} (t : Bool) (x y : X) → some_if t x ≡ Some y → (t ≡ true) × (x ≡ y)
 some-if true x y e = (refl, cc)
 some-if false x y e = absurd cc
 
+-- a negative number is a word
 negative-small : (o : Option ℕ) (w : ℕ) → negative_of o ≡ Some w → w < 2 ^ 32
 negative-small None w e = absurd cc
 negative-small (Some n) w e = let same : (2 ^ 32 - n) % 2 ^ 32 ≡ w = cc in omega (arith, same)
 
+-- so are 1 to 8 hexadecimal digits
 hexadecimal-small : (bs : List ℕ) (w : ℕ) → hexadecimal_of bs ≡ Some w → w < 2 ^ 32
 hexadecimal-small bs w e =
     let p = some-if (nat_lt 0 (length bs) && (nat_lt (length bs) 9 && are_digits 16 bs)) (number_behind 16 0 bs) w e in
     let q = both-true (nat_lt (length bs) 9) (are_digits 16 bs) (both-true (nat_lt 0 (length bs)) _ p.0).1 in
     subst (λ n. n < 2 ^ 32) p.1 (eight_digits bs q.1 (test-below (length bs) 9 q.0))
 
+-- and a number up to the greatest
 decimal-small : (bs : List ℕ) (w : ℕ) → decimal_up_to (2 ^ 32 - 1) bs ≡ Some w → w < 2 ^ 32
 decimal-small bs w e = let p = decimal_up_to-is (2 ^ 32 - 1) bs w (omega arith) e in omega (arith, p.1)
 
+-- what reads as a word is below 2 ^ 32
 pub word-small : (bs : List ℕ) (w : ℕ) → word_of bs ≡ Some w → w < 2 ^ 32
 word-small [] w e = absurd cc
 word-small (b ∷ []) w e = decimal-small (b ∷ []) w e
@@ -135,6 +140,7 @@ word-small (b ∷ c ∷ bs) w e = go (b == 45) refl ((b == 48) && (c == 120)) re
 
 -- ---- depths
 
+-- a written depth is at most 3
 depth-most : (t : List ℕ) → depth_written t ≤ 3
 depth-most t = go (has_depth t) refl
   where
@@ -146,6 +152,7 @@ depth-most t = go (has_depth t) refl
         let most : last ≤ 51 = leb-true last 51 d.1 in
         rw (depth_written, p) (omega arith)
 
+-- and so is a node's
 pub depth-small : (v : Verb) (ns : List (List ℕ)) → depth_made v ns ≤ 3
 depth-small v [] = omega arith
 depth-small v (n ∷ ns) = go (makes v) refl
@@ -158,10 +165,12 @@ depth-small v (n ∷ ns) = go (makes v) refl
     go None e = rw (depth_made, e) (omega arith)
     go (Some r) e = by_role r (same_role r role.Value) refl e
 
+-- a role is a value either way
 role-turned : (r : Role) → same_role r role.Value ≡ same_role role.Value r
 role-turned role.Value = refl
 role-turned r = refl
 
+-- a node that is no value has depth 0
 pub no-depth : (v : Verb) (ns : List (List ℕ)) → named_for role.Value v ≡ false → depth_made v ns ≡ 0
 no-depth v [] e = refl
 no-depth v (n ∷ ns) e = go (makes v) refl
@@ -172,6 +181,7 @@ no-depth v (n ∷ ns) e = go (makes v) refl
 
 -- ---- names
 
+-- a node has a name where its line begins with one
 pub named-right : (q : Known) (s : Sentence) (n : Node) → IsMade q s n → IsGood q s → is_named_right n ≡ true
 named-right q s n made good = go (makes s.verb) refl
   where

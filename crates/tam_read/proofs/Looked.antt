@@ -65,6 +65,7 @@ abbrev pub node_list : ℕ → List Sentence → Entries
 node_list x [] = []
 node_list x (s ∷ ss) = node_entries x s ++ node_list (number_behind s.verb x) ss
 
+-- a look-up in a table of nodes is one in their entries
 pub found-nodes : (t : List ℕ) (x : ℕ) (ss : List Sentence) (es : Entries) → found t (nodes_from x ss es) ≡ found t (es ++ node_list x ss)
 found-nodes t x [] es = ap (found t) (sym (append-nil es))
 found-nodes t x (s ∷ ss) es =
@@ -74,10 +75,12 @@ found-nodes t x (s ∷ ss) es =
     ∙ sym (found-append t (es ++ node_entries x s) (node_list (number_behind s.verb x) ss))
     ∙ ap (found t) (append_assoc es (node_entries x s) (node_list (number_behind s.verb x) ss))
 
+-- the entries of codes in a row
 abbrev pub code_list : ℕ → List Sentence → Entries
 code_list n [] = []
 code_list n (s ∷ ss) = code_entries n s ++ code_list (code_behind s.verb n) ss
 
+-- and so of codes
 pub found-codes : (t : List ℕ) (n : ℕ) (ss : List Sentence) (es : Entries) → found t (codes_from n ss es) ≡ found t (es ++ code_list n ss)
 found-codes t n [] es = ap (found t) (sym (append-nil es))
 found-codes t n (s ∷ ss) es =
@@ -103,6 +106,7 @@ found-one t (n ∷ ns) m b e = go (same_bytes t n) refl b e (found-one t ns m)
 
 -- ---- codes: a name is found where a code has it
 
+-- a code of the name is among them
 pub codes-found : (t : List ℕ) (n : ℕ) (ss : List Sentence) → is_made role.Callee (found t (code_list n ss)) ≡ any_of (same_bytes t) (flat_map code_begun ss)
 codes-found t n [] = refl
 codes-found t n (s ∷ ss) =
@@ -142,6 +146,7 @@ not-later r t s ss apart here = go (any_of (makes_named r t) ss) refl
         let n = any-in (same_bytes t) (names_made s) here in
         absurd (apart t (subst (λ x. In x (names_made s)) (sym (same_equal t n.0 n.2)) n.1) (flat_map-in names_made m.0 t ss m.1 (named-in r t m.0 m.2)))
 
+-- where the names of nodes differ
 pub nodes-found : (r : Role) (t : List ℕ) (x : ℕ) (ss : List Sentence) → DifferBehind ss → is_made r (found t (node_list x ss)) ≡ any_of (makes_named r t) ss
 nodes-found r t x [] d = refl
 nodes-found r t x (s ∷ ss) d =

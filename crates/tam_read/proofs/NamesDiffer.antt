@@ -48,6 +48,7 @@ given-one (n ∷ []) rest few h = go (is_name n) refl
     go false e = absurd (true≢false (sym (rw (all_of, e) at h)))
 given-one (n ∷ m ∷ ns) rest few h = absurd (omega arith)
 
+-- an image is as long as the list
 pub mapped : {X Y : Type 0} (f : X → Y) (xs : List X) → length (map f xs) ≡ length xs
 mapped f [] = refl
 mapped f (x ∷ xs) = ap suc (mapped f xs)
@@ -62,10 +63,12 @@ few-names s f = go (makes s.verb) refl
     go (Some r) e = let p = number-eq (length s.name) 1 (rw e at (form-parts (makes s.verb) s.name s.rest (roles_of s.verb) f).0) in omega
         (arith, mapped (name_made s.verb) s.name)
 
+-- a line without a node has no name
 no-names : (s : Sentence) → has_form s.name s.rest s.verb ≡ true → makes s.verb ≡ None → names_made s ≡ []
 no-names s f e = ap (map (name_made s.verb)) (no-element s.name (number-eq (length s.name) 0
     (rw e at (form-parts (makes s.verb) s.name s.rest (roles_of s.verb) f).0)))
 
+-- the names of two lists
 given-append : (xs ys : List (Option (List ℕ))) → given_names (xs ++ ys) ≡ given_names xs ++ given_names ys
 given-append [] ys = refl
 given-append (None ∷ xs) ys = given-append xs ys
@@ -75,6 +78,7 @@ given-append (Some x ∷ xs) ys = ap (λ zs. x ∷ zs) (given-append xs ys)
 abbrev names_of : List Node → List (List ℕ)
 names_of ns = given_names (map (λ n. n.name) ns)
 
+-- of nodes one behind the other
 names-append : (xs ys : List Node) → names_of (xs ++ ys) ≡ names_of xs ++ names_of ys
 names-append xs ys = ap given_names (map-append (λ (n : Node). n.name) xs ys) ∙ given-append (map (λ n. n.name) xs) (map (λ n. n.name) ys)
 
@@ -132,6 +136,7 @@ one-by-one [] ms few apart h = h
 one-by-one (n ∷ []) ms few apart h = differs-first n ms (apart n (inl refl)) h
 one-by-one (n ∷ m ∷ ns) ms few apart h = absurd (omega arith)
 
+-- the names of lines that differ
 pub all-names-differ : (ss : List Sentence) → DifferBehind ss → ((s : Sentence) → In s ss → length (names_made s) ≤ 1)
     → all_differ same_bytes (flat_map names_made ss) ≡ true
 all-names-differ [] d few = refl
@@ -168,6 +173,7 @@ codes-apart before (s ∷ ss) c n p q =
     (right-in n (code_begun s) (flat_map code_begun before) q)))
     (in-append n (code_begun s) (flat_map code_begun ss) (subst (λ ns. In n ns) (flat_map-cons code_begun s ss) p))
 
+-- a line begins at most one code
 one-code : (s : Sentence) → has_form s.name s.rest s.verb ≡ true → length (code_begun s) ≤ 1
 one-code s f = go (is_code s.verb) refl
   where
@@ -179,6 +185,7 @@ one-code s f = go (is_code s.verb) refl
     go true e = rw (code_begun, e) (short s.rest)
     go false e = rw (code_begun, e) (omega arith)
 
+-- the names of the codes of clean lines differ
 begun-differ : (before ss : List Sentence) → AreClean before ss → ((s : Sentence) → In s ss → has_form s.name s.rest s.verb ≡ true)
     → all_differ same_bytes (flat_map code_begun ss) ≡ true
 begun-differ before [] c form = refl
@@ -196,6 +203,7 @@ none-begun (s ∷ ss) none =
     let here : code_begun s ≡ [] = rw (code_begun, none.0) refl in
     flat_map-cons code_begun s ss ∙ ap₂ (λ a b. a ++ b) here (none-begun ss none.1)
 
+-- the first line of a code begins the code of its name
 head-name : (d : CodeLines) → has_form d.head.name d.head.rest d.head.verb ≡ true → code_begun d.head ≡ or_nameless (code_begun d.head) ∷ []
 head-name d f =
     let p = both-true (length d.head.name == 0) (length d.head.rest == 1) (ap (has_form d.head.name d.head.rest) (sym d.begins) ∙ f) in
@@ -203,6 +211,7 @@ head-name d f =
     let begun : code_begun d.head ≡ one.0 ∷ [] = rw (code_begun, ap is_code d.begins) (ap (take 1) one.1) in
     begun ∙ ap (λ n. n ∷ []) (sym (ap or_nameless begun))
 
+-- the names of the codes, one each
 pub begun-names : (ds : List CodeLines) → ((d : CodeLines) → In d ds → has_form d.head.name d.head.rest d.head.verb ≡ true)
     → flat_map code_begun (lines_of_codes ds) ≡ map (λ d. or_nameless (code_begun d.head)) ds
 begun-names [] form = refl
@@ -257,6 +266,7 @@ few-begun before (s ∷ ss) c form h =
         let one = one-code s (form s (inl refl)) in
         omega arith
 
+-- there are at most 256 codes
 pub few-codes : (ds : List CodeLines) → AreClean [] (lines_of_codes ds) → ((s : Sentence) → In s (lines_of_codes ds) → has_form s.name s.rest s.verb ≡ true)
     → ((d : CodeLines) → In d ds → has_form d.head.name d.head.rest d.head.verb ≡ true) → length ds ≤ 256
 few-codes ds c form heads =

@@ -37,15 +37,18 @@ use Rattle.tam_read.proofs.LinesRight.{named-right}
 
 -- ---- each node is made of a line
 
+-- the node is made of one of the lines
 pub record IsOfLine (q : Known) (ss : List Sentence) (n : Node) : Type 0 where
   pub line : Sentence
   pub among : In line ss
   pub made : IsMade q line n
   pub is-node : is_node line.verb ≡ true
 
+-- a line of some is one of more
 wider-line : (q : Known) (ss ts : List Sentence) (n : Node) → ((s : Sentence) → In s ss → In s ts) → IsOfLine q ss n → IsOfLine q ts n
 wider-line q ss ts n h e = record { line = e.line; among = h e.line e.among; made = e.made; is-node = e.is-node }
 
+-- each node of a tree is made of one of its lines
 pub node-of-line : (q : Known) (t : Tree) (b k : ℕ) → Fits t → (n : Node) → In n (tree_nodes q t b k) → IsOfLine q (flat t) n
 node-of-line q Done b k f n i = absurd i
 node-of-line q (Plain s r) b k f n (inl e) = record {
@@ -71,11 +74,13 @@ node-of-line q (Branch s y t o e r) b k f n (inr i) =
     (in-append n (tree_nodes q o j (suc j)) (tree_nodes q r b l) p))
     (in-append n (tree_nodes q y k (suc k)) (tree_nodes q o j (suc j) ++ tree_nodes q r b l) i)
 
+-- at each place there is a node
 there : (ns : List Node) (x : ℕ) → x < length ns → (n : Node) × (slice_get ns x ≡ Some n)
 there [] x l = absurd (omega arith)
 there (n ∷ ns) zero l = (n, refl)
 there (n ∷ ns) (suc x) l = there ns x (omega arith)
 
+-- where there is an element the place is within
 get-within : {X : Type 0} (xs : List X) (k : ℕ) (x : X) → slice_get xs k ≡ Some x → k < length xs
 get-within [] k x e = absurd cc
 get-within (y ∷ ys) zero x e = omega arith

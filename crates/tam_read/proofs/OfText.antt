@@ -29,16 +29,19 @@ use Rattle.tam_read.proofs.Bounded.{IsCleanCode, codes-clean, code-bounded, code
 use Rattle.tam_read.proofs.BlockLimits.{vertices-append, blocks-small, code-small, blocks-shallow}
 use Rattle.tam_read.proofs.NamesDiffer.{mapped, code-names-differ, codes-differ, head-named, few-codes}
 
+-- at each place there is an element
 there : {X : Type 0} (xs : List X) (k : ℕ) → k < length xs → (x : X) × (slice_get xs k ≡ Some x)
 there [] k l = absurd (omega arith)
 there (x ∷ xs) zero l = (x, refl)
 there (x ∷ xs) (suc k) l = there xs k (omega arith)
 
+-- an element of an image
 get-mapped : {X Y : Type 0} (f : X → Y) (xs : List X) (k : ℕ) (x : X) → slice_get xs k ≡ Some x → slice_get (map f xs) k ≡ Some (f x)
 get-mapped f [] k x e = absurd cc
 get-mapped f (y ∷ ys) zero x e = let same : y ≡ x = cc in ap (λ z. Some (f z)) same
 get-mapped f (y ∷ ys) (suc k) x e = get-mapped f ys k x e
 
+-- the names of the codes
 names-mapped : (ds : List CodeLines) (some : List CodeLines) → map (λ c. c.name) (map (code_of_lines (entries_of ds)) some)
     ≡ map (λ d. or_nameless (code_begun d.head)) some
 names-mapped ds [] = refl

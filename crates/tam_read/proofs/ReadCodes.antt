@@ -31,6 +31,7 @@ plain_pieces (s ∷ ss) = elim (is_code s.verb) [ true ↦ (s, until_code ss) �
 abbrev pub unnumbered : Piece → Sentence × List Sentence
 unnumbered q = (q.head, sayings q.body)
 
+-- the lines up to the next code
 body-unnumbered : (ps : Numbered) → sayings (body_of ps) ≡ until_code (sayings ps)
 body-unnumbered [] = refl
 body-unnumbered (p ∷ ps) = go (is_code p.1.verb) refl (body-unnumbered ps)
@@ -39,6 +40,7 @@ body-unnumbered (p ∷ ps) = go (is_code p.1.verb) refl (body-unnumbered ps)
     go true e i = rw (body_of, until_code, e) refl
     go false e i = rw (body_of, until_code, e) (ap (λ ss. p.1 ∷ ss) i)
 
+-- the codes of lines
 pub pieces-unnumbered : (ps : Numbered) → map unnumbered (pieces ps) ≡ plain_pieces (sayings ps)
 pieces-unnumbered [] = refl
 pieces-unnumbered (p ∷ ps) = go (is_code p.1.verb) refl (pieces-unnumbered ps)
@@ -50,10 +52,12 @@ pieces-unnumbered (p ∷ ps) = go (is_code p.1.verb) refl (pieces-unnumbered ps)
 
 -- ---- the pieces of codes that are trees
 
+-- lines one behind the other
 no-code-append : (xs ys : List Sentence) → NoCode xs → NoCode ys → NoCode (xs ++ ys)
 no-code-append [] ys a b = b
 no-code-append (x ∷ xs) ys a b = (a.0, no-code-append xs ys a.1 b)
 
+-- a plain verb begins no code
 plain-no-code : (v : Verb) → is_plain_verb v ≡ true → is_code v ≡ false
 plain-no-code verb.Code e = absurd (true≢false (sym e))
 plain-no-code v e = refl
@@ -72,17 +76,21 @@ tree-no-code (Branch s y t n e r) f = (
 abbrev pub body_lines : CodeLines → List Sentence
 body_lines d = flat d.body ++ d.close ∷ []
 
+-- no line of a body does
 pub body-no-code : (d : CodeLines) → NoCode (body_lines d)
 body-no-code d = no-code-append (flat d.body) (d.close ∷ []) (tree-no-code d.body d.fits) (ap is_code d.closes, tt)
 
+-- lines before a code
 skip-no-code : (xs rest : List Sentence) → NoCode xs → plain_pieces (xs ++ rest) ≡ plain_pieces rest
 skip-no-code [] rest none = refl
 skip-no-code (x ∷ xs) rest none = rw (plain_pieces, none.0) (skip-no-code xs rest none.1)
 
+-- codes begin at once
 none-before-codes : (ds : List CodeLines) → until_code (lines_of_codes ds) ≡ []
 none-before-codes [] = refl
 none-before-codes (d ∷ ds) = until-here d.head (body_lines d ++ lines_of_codes ds) (ap is_code d.begins)
 
+-- the codes of codes' lines
 pub pieces-of-codes : (ds : List CodeLines) → plain_pieces (lines_of_codes ds) ≡ map (λ d. (d.head, body_lines d)) ds
 pieces-of-codes [] = refl
 pieces-of-codes (d ∷ ds) =
@@ -113,16 +121,20 @@ code_of_lines codes d = record {
   owners = None ∷ tree_owners d.body 0;
 }
 
+-- it is built of the lines
 code-said : (codes : Entries) (d : CodeLines) → code_said codes (d.head, body_lines d) ≡ code_of_lines codes d
 code-said codes d = ap (code_built (or_nameless (code_begun d.head))) (code-built (known_of codes d) d.body d.close d.fits d.closes)
 
+-- it is that of its tree
 pub code-of-tree : (codes : Entries) (d : CodeLines) → IsOfTree (known_of codes d) d.body (code_of_lines codes d)
 code-of-tree codes d = record { fits = d.fits; nodes = refl; owners = refl }
 
+-- so are all
 codes-said : (codes : Entries) (ds : List CodeLines) → map (code_said codes) (map (λ d. (d.head, body_lines d)) ds) ≡ map (code_of_lines codes) ds
 codes-said codes [] = refl
 codes-said codes (d ∷ ds) = ap₂ (λ c cs. c ∷ cs) (code-said codes d) (codes-said codes ds)
 
+-- the codes of pieces
 codes-of-pieces : (codes : Entries) (qs : List Piece) → map (λ p. p.code) (map (part_made codes) qs) ≡ map (code_said codes) (map unnumbered qs)
 codes-of-pieces codes [] = refl
 codes-of-pieces codes (q ∷ qs) = ap (λ cs. code_said codes (unnumbered q) ∷ cs) (codes-of-pieces codes qs)
@@ -138,6 +150,7 @@ pub record IsRead (bytes : List ℕ) : Type 0 where
   pub clean : AreClean [] (lines_of_codes lines)
   pub codes : codes_read bytes ≡ map (code_of_lines (codes_from 0 (lines_of_codes lines) [])) lines
 
+-- such a text is read
 pub text-is-read : (bytes : List ℕ) → first_pass (last_line bytes) [] 1 (lines_of bytes) ≡ [] → IsRead bytes
 text-is-read bytes e =
     let ns = said_from 1 (lines_of bytes) in

@@ -10,6 +10,7 @@ use Rattle.tam_read.specs.SaidView.{texts}
 use Rattle.tam_read.specs.Faults.{some_shared}
 use Rattle.tam_read.proofs.Among.{any_of-reverse}
 
+-- a choice whose first way is true is one of two
 first_then : (t u : Bool) → (elim t [ true ↦ true | false ↦ u ]) ≡ (t || u)
 first_then true u = refl
 first_then false u = refl

@@ -64,10 +64,12 @@ pub record AreFound (g : Graph) (c : Code) (q : Known) : Type 0 where
   pub nodes : (t : List ℕ) (m : Made) → found t q.nodes ≡ Some m → node_name c m.number ≡ t
   pub codes : (t : List ℕ) (m : Made) → found t q.codes ≡ Some m → (code_of g m.number).name ≡ t
 
+-- what is made is there
 pub made-some : (r : Role) (o : Option Made) → is_made r o ≡ true → (m : Made) × (o ≡ Some m) × (same_role r m.role ≡ true)
 made-some r None e = absurd (true≢false (sym e))
 made-some r (Some m) e = (m, refl, e)
 
+-- what is some is there
 pub some-there : {X : Type 0} (o : Option X) → is_some o ≡ true → (x : X) × (o ≡ Some x)
 some-there None e = absurd (true≢false (sym e))
 some-there (Some x) e = (x, refl)
@@ -77,6 +79,7 @@ abbrev pub is_no_code : Role → Bool
 is_no_code role.Code = false
 is_no_code r = true
 
+-- so of each verb of a node
 pub roles-no-code : (v : Verb) → is_node v ≡ true → all_of is_no_code (roles_of v) ≡ true
 roles-no-code verb.Code e = absurd (true≢false (sym e))
 roles-no-code v e = refl
@@ -150,6 +153,7 @@ module _ (g : Graph) (c : Code) (q : Known) (are : AreFound g c q) where
   three-numbers (r ∷ s ∷ p ∷ []) (t ∷ u ∷ v ∷ w ∷ ts) l few = absurd (omega arith)
   three-numbers (r ∷ s ∷ p ∷ o ∷ rs) (t ∷ u ∷ v ∷ ts) l few = absurd (omega arith)
 
+-- a verb has at most three tokens behind it
 pub few-roles : (v : Verb) → length (roles_of v) ≤ 3
 few-roles verb.Param = omega arith
 few-roles verb.Const = omega arith
@@ -194,6 +198,7 @@ pub record IsGood (q : Known) (s : Sentence) : Type 0 where
 abbrev pub line_by : Graph → Code → List ℕ → ℕ → Kind → Line
 line_by g c name depth k = elim (is_named k) [ true ↦ Bytes (name ++ suffix depth) ∷ Bytes (codes "=") ∷ tokens g c k | false ↦ tokens g c k ]
 
+-- the line of the node at a place
 pub node-line-at : (g : Graph) (c : Code) (x : ℕ) (n : Node) → slice_get c.nodes x ≡ Some n → node_line g c x ≡ line_by g c (or_bytes n.name) n.depth n.kind
 node-line-at g c x n e = ap (λ o. line_by g c (or_name o) (or_depth o) (or_kind o)) e
 
@@ -204,10 +209,12 @@ pub form-parts : (o : Option Role) (name rest : List (List ℕ)) (roles : List R
 form-parts o name rest roles e = let p = both-true (elim o [ None ↦ length name == 0 | Some r ↦ length name == 1 ]) (length rest == length roles) e in
     (p.0, number-eq (length rest) (length roles) p.1)
 
+-- a list without length is empty
 pub no-element : (xs : List (List ℕ)) → length xs ≡ 0 → xs ≡ []
 no-element [] e = refl
 no-element (x ∷ xs) e = absurd (omega arith)
 
+-- a list of length 1 has one
 pub one-element : (xs : List (List ℕ)) → length xs ≡ 1 → (x : List ℕ) × (xs ≡ x ∷ [])
 one-element [] e = absurd (omega arith)
 one-element (x ∷ []) e = (x, refl)

@@ -32,6 +32,7 @@ first-line (b ∷ bs) l ls e = go (b == 10) refl (lines_of bs) refl
     go false p [] q = let one : b ∷ [] ≡ l = (let z : (b ∷ []) ∷ [] ≡ l ∷ ls = rw (lines_of, p, q) at e in cc) in ap is_at_end (sym one)
     go false p (m ∷ ms) q = let one : b ∷ m ≡ l = (let z : (b ∷ m) ∷ ms ≡ l ∷ ls = rw (lines_of, p, q) at e in cc) in ap is_at_end (sym one)
 
+-- where all pass, the first does, and those behind it
 first-of : {X : Type 0} (f : X → Bool) (x : X) (xs : List X) → all_of f (x ∷ xs) ≡ true → (f x ≡ true) × (all_of f xs ≡ true)
 first-of f x xs e = go (f x) refl
   where
@@ -39,6 +40,7 @@ first-of f x xs e = go (f x) refl
     go true p = (p, rw (all_of, p) at e)
     go false p = absurd (true≢false (sym (rw (all_of, p) at e)))
 
+-- where bytes are good, the first is, and those behind it
 good-parts : (b : ℕ) (bs : List ℕ) → are_good_bytes (b ∷ bs) ≡ true → (is_good_byte b bs ≡ true) × (are_good_bytes bs ≡ true)
 good-parts b bs e = go (is_good_byte b bs) refl
   where
@@ -46,6 +48,7 @@ good-parts b bs e = go (is_good_byte b bs) refl
     go true p = (p, rw (are_good_bytes, p) at e)
     go false p = absurd (true≢false (sym (rw (are_good_bytes, p) at e)))
 
+-- and the other way round
 good-both : (b : ℕ) (bs : List ℕ) → is_good_byte b bs ≡ true → are_good_bytes bs ≡ true → are_good_bytes (b ∷ bs) ≡ true
 good-both b bs p q = rw (are_good_bytes, p) q
 
@@ -131,6 +134,7 @@ words-behind last b before n (line ∷ lines) e =
 
 -- ---- the head
 
+-- the words of a head
 head-by : (ws : List (List ℕ)) → is_head ws ≡ true → same_line ws (Bytes (bytes_of "dg") ∷ Bytes (bytes_of "1") ∷ []) ≡ true
 head-by [] e = e
 head-by (w ∷ ws) e = go (same_bytes w (bytes_of "dg")) refl ws e
@@ -153,6 +157,7 @@ pub record AreWorded (ls : List (List (List ℕ))) (ss : List Sentence) : Type 0
   pub parts : ls ≡ head ∷ map words_said ss
   pub spelled : same_line head (Bytes (bytes_of "dg") ∷ Bytes (bytes_of "1") ∷ []) ≡ true
 
+-- the lines of a text without a fault of the first pass
 pub all-words : (last n : ℕ) (lines : List (List ℕ)) → first_pass last [] n lines ≡ []
     → AreWorded (filter is_some_of (map words_of lines)) (said (map words_of lines))
 all-words last n [] e = absurd cc

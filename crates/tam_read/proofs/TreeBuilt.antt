@@ -51,6 +51,7 @@ tree_owners (Plain s r) x = tree_owners r (suc x)
 tree_owners (Branch s y t n e r) x =
     Some x ∷ (tree_owners y (suc x) ++ (Some x ∷ (tree_owners n (suc x + size (shape y)) ++ tree_owners r (suc x + size (shape y) + size (shape n)))))
 
+-- a tree makes as many nodes as its size
 pub length-tree_nodes : (q : Known) (t : Tree) (b k : ℕ) → length (tree_nodes q t b k) ≡ size (shape t)
 length-tree_nodes q Done b k = refl
 length-tree_nodes q (Plain s r) b k = ap suc (length-tree_nodes q r b k)
@@ -64,6 +65,7 @@ length-tree_nodes q (Branch s y t n e r) b k =
     three : (p q w p' q' w' : ℕ) → p ≡ p' → q ≡ q' → w ≡ w' → p + (q + w) ≡ p' + (q' + w')
     three p q w p' q' w' e f g = omega arith
 
+-- and opens as many blocks
 pub length-tree_owners : (t : Tree) (x : ℕ) → length (tree_owners t x) ≡ opened (shape t)
 length-tree_owners Done x = refl
 length-tree_owners (Plain s r) x = length-tree_owners r (suc x)
@@ -86,6 +88,7 @@ kind-same : (v : Verb) (x y z next : ℕ) → is_plain_verb v ≡ true → kind_
 kind-same verb.Cond x y z next e = absurd cc
 kind-same v x y z next e = refl
 
+-- so is its node
 node-same : (q : Known) (b next : ℕ) (s : Sentence) → is_plain_verb s.verb ≡ true → node_said q b next s ≡ node_plain q b s
 node-same q b next s e =
     ap (λ k. let n : Node = record { name = name_given (names_made s); depth = depth_made s.verb s.name; block = b; kind = k } in n)
@@ -108,6 +111,7 @@ changed-there f [] x back (suc n) e = absurd (omega arith)
 changed-there f (y ∷ front) x back zero e = absurd (omega arith)
 changed-there f (y ∷ front) x back (suc n) e = ap (λ l. y ∷ l) (changed-there f front x back n (omega arith))
 
+-- a list with one more is longer by one
 one-longer : {X : Type 0} (xs : List X) (x : X) (n : ℕ) → length xs ≡ n → length (xs ++ x ∷ []) ≡ suc n
 one-longer xs x n e = length-append xs (x ∷ []) ∙ omega arith
 
@@ -158,6 +162,7 @@ end-built q e ns os o w is = ap (built_by q (a_built ns os (o ∷ w)) e) is
 branch-nodes : (ns : List Node) (m : Node) (ys zs rs : List Node) → (((ns ++ m ∷ []) ++ ys) ++ zs) ++ rs ≡ ns ++ (m ∷ (ys ++ (zs ++ rs)))
 branch-nodes ns m ys zs rs = append_assoc ((ns ++ m ∷ []) ++ ys) zs rs ∙ append_assoc (ns ++ m ∷ []) ys (zs ++ rs) ∙ append_assoc ns (m ∷ []) (ys ++ (zs ++ rs))
 
+-- and the owners
 branch-owners : (os : List (Option ℕ)) (o : Option ℕ) (ys zs rs : List (Option ℕ))
     → ((((os ++ o ∷ []) ++ ys) ++ o ∷ []) ++ zs) ++ rs ≡ os ++ (o ∷ (ys ++ (o ∷ (zs ++ rs))))
 branch-owners os o ys zs rs =

@@ -28,19 +28,23 @@ use Rattle.tam_read.proofs.Spelling.{AreFound, IsMade, IsGood, line-spelled}
 
 -- ---- the nodes of lines are made of them
 
+-- a plain verb is that of a node
 pub plain-is-node : (v : Verb) → is_plain_verb v ≡ true → is_node v ≡ true
 plain-is-node verb.Code e = absurd (true≢false (sym e))
 plain-is-node verb.Else e = absurd (true≢false (sym e))
 plain-is-node verb.End e = absurd (true≢false (sym e))
 plain-is-node v e = refl
 
+-- a kind that is no cond has no else block
 else-plain : (n : ℕ) (k : Kind) → is_plain k ≡ true → k ≡ else_kind n k
 else-plain n (kind.Cond p y m) e = absurd (true≢false (sym e))
 else-plain n k e = refl
 
+-- a plain line's node
 pub plain-made : (q : Known) (b : ℕ) (s : Sentence) → is_plain_verb s.verb ≡ true → IsMade q s (node_plain q b s)
 plain-made q b s e = record { next = 0; other = 0; name = refl; depth = refl; kind = else-plain 0 (kind_said q 0 s) (plain-kind s.verb _ _ _ 0 e) }
 
+-- a cond's node
 pub cond-made : (q : Known) (b y n : ℕ) (s : Sentence) → s.verb ≡ verb.Cond → IsMade q s (node_cond q b y n s)
 cond-made q b y n s e = record {
   next = y;
@@ -66,10 +70,12 @@ same-append [] vs (l ∷ ls) ms a b = absurd (true≢false (sym a))
 same-append (w ∷ ws) vs [] ms a b = absurd (true≢false (sym a))
 same-append (w ∷ ws) vs (l ∷ ls) ms a b = let p = both-true (same_line w l) (same_lines ws ls) a in true-both _ _ p.0 (same-append ws vs ls ms p.1 b)
 
+-- a line before others
 pub same-first : (w : List (List ℕ)) (ws : List (List (List ℕ))) (l : Line) (ls : List Line) → same_line w l ≡ true → same_lines ws ls ≡ true
     → same_lines (w ∷ ws) (l ∷ ls) ≡ true
 same-first w ws l ls a b = true-both _ _ a b
 
+-- a list without length is empty
 pub no-words : (xs : List (List ℕ)) → length xs ≡ 0 → xs ≡ []
 no-words [] e = refl
 no-words (x ∷ xs) e = absurd (omega arith)
@@ -84,9 +90,11 @@ alone-by v name rest (inr e) f =
     let p = both-true _ _ (ap (has_form name rest) (sym e) ∙ f) in
     ap₂ (λ n r. with_name n (verb_text v ∷ r)) (no-words name (number-eq (length name) 0 p.0)) (no-words rest (number-eq (length rest) 0 p.1))
 
+-- a line `else`
 pub else-spelled : (s : Sentence) → s.verb ≡ verb.Else → has_form s.name s.rest s.verb ≡ true → same_line (words_said s) (Bytes (codes "else") ∷ []) ≡ true
 else-spelled s e f = ap (λ ws. same_line ws (Bytes (codes "else") ∷ [])) (alone-by s.verb s.name s.rest (inl e) f ∙ ap (λ v. verb_text v ∷ []) e)
 
+-- a line `end`
 pub end-spelled : (s : Sentence) → s.verb ≡ verb.End → has_form s.name s.rest s.verb ≡ true → same_line (words_said s) end_line ≡ true
 end-spelled s e f = ap (λ ws. same_line ws end_line) (alone-by s.verb s.name s.rest (inr e) f ∙ ap (λ v. verb_text v ∷ []) e)
 

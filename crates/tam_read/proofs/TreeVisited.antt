@@ -30,13 +30,16 @@ Holds c q (Branch s y t n e r) b x k =
     × Holds c q n (suc k + opened (shape y)) (suc x + size (shape y)) (suc (suc k + opened (shape y)))
     × Holds c q r b (suc x + size (shape y) + size (shape n)) (suc (suc k + opened (shape y)) + opened (shape n))
 
+-- a node behind others stands at their number
 at_front : (front : List Node) (n : Node) (back : List Node) → slice_get (front ++ n ∷ back) (length front) ≡ Some n
 at_front [] n back = refl
 at_front (f ∷ fs) n back = at_front fs n back
 
+-- so does one in a row of nodes
 node_at : (c : Code) (x : ℕ) (front : List Node) (n : Node) (back : List Node) → c.nodes ≡ front ++ n ∷ back → length front ≡ x → slice_get c.nodes x ≡ Some n
 node_at c x front n back e l = ap (λ ns. slice_get ns x) e ∙ ap (slice_get (front ++ n ∷ back)) (sym l) ∙ at_front front n back
 
+-- a row with one more is longer by one
 longer : (front : List Node) (n : Node) (x : ℕ) → length front ≡ x → length (front ++ n ∷ []) ≡ suc x
 longer front n x l = length-append front (n ∷ []) ∙ omega arith
 
@@ -92,6 +95,7 @@ agrees q c (Branch s y t n e r) b x k f h = (
   agrees q c r b (suc x + size (shape y) + size (shape n)) (suc (suc k + opened (shape y)) + opened (shape n)) f.5 h.3,
 )
 
+-- behind the last node there is no block
 pub past_end : (ns : List Node) (z : ℕ) → length ns ≤ z → or_block (slice_get ns z) ≡ 0
 past_end [] z h = refl
 past_end (n ∷ ns) zero h = absurd (omega arith)
@@ -104,11 +108,13 @@ abbrev pub in_row : ℕ → ℕ → List ℕ
 in_row x zero = []
 in_row x (suc m) = x ∷ in_row (suc x) m
 
+-- a row in two parts
 pub row-split : (x m n : ℕ) → in_row x (m + n) ≡ in_row x m ++ in_row (x + m) n
 row-split x zero n = let a : 0 + n ≡ n = omega arith in let b : x + 0 ≡ x = omega arith in rw (a, b) refl
 row-split x (suc m) n = let a : suc m + n ≡ suc (m + n) = omega arith in let b : x + suc m
     ≡ suc x + m = omega arith in rw (a, b) (ap (λ xs. x ∷ xs) (row-split (suc x) m n))
 
+-- the numbers below n are a row
 pub below-row : (n : ℕ) → below n ≡ in_row 0 n
 below-row zero = refl
 below-row (suc n) =

@@ -23,6 +23,7 @@ abbrev pub with_name : List (List ℕ) → List (List ℕ) → List (List ℕ)
 with_name [] ws = ws
 with_name (n ∷ ns) ws = n ∷ codes "=" ∷ ws
 
+-- the words of a sentence
 abbrev pub words_said : Sentence → List (List ℕ)
 words_said s = with_name s.name (verb_text s.verb ∷ s.rest)
 
@@ -50,6 +51,7 @@ said-by name t rest s e = at (verb_called t) refl (subst (λ z. z ≡ s ∷ []) 
         let first = one-first (λ v. same_bytes t (verb_text v)) all_verbs v vs f in
         by_form v (has_form name rest v) refl (same_equal t (verb_text v) first.1) (rw (said_by, f) at e)
 
+-- behind a name and `=`
 said-named : (n : List ℕ) (ts : List (List ℕ)) (s : Sentence) → said_named n ts ≡ s ∷ [] → IsSaidSo (n ∷ codes "=" ∷ ts) s
 said-named n [] s e = absurd cc
 said-named n (t ∷ ts) s e = said-by (n ∷ []) t ts s e

@@ -39,6 +39,7 @@ kind_made v x y z next = kind.Enter 0
 abbrev pub depth_written : List ℕ → ℕ
 depth_written t = elim (has_depth t) [ true ↦ slice_index t (length t - 1) - 48 | false ↦ 0 ]
 
+-- its depth, where it gives a value
 abbrev pub depth_made : Verb → List (List ℕ) → ℕ
 depth_made v [] = 0
 depth_made v (t ∷ ts) = elim (makes v) [ None ↦ 0 | Some r ↦ elim (same_role r role.Value) [ true ↦ depth_written t | false ↦ 0 ] ]
@@ -89,6 +90,7 @@ abbrev pub else_kind : ℕ → Kind → Kind
 else_kind n (kind.Cond p y other) = kind.Cond p y n
 else_kind n k = k
 
+-- a node with its else block
 abbrev pub with_else : ℕ → Node → Node
 with_else n m = record { name = m.name; depth = m.depth; block = m.block; kind = else_kind n m.kind }
 

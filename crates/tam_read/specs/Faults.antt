@@ -156,6 +156,7 @@ is_known_node code role.Call t = any_of (makes_named role.Call t) code
 is_known_node code role.Cond t = any_of (makes_named role.Cond t) code
 is_known_node code r t = true
 
+-- and a code
 abbrev pub is_known_code : List Sentence → Role → List ℕ → Bool
 is_known_code all role.Callee t = any_of (same_bytes t) (flat_map code_begun all)
 is_known_code all r t = true

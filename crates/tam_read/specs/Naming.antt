@@ -71,11 +71,13 @@ first_number k [] ts = 0
 first_number k (r ∷ rs) [] = 0
 first_number k (r ∷ rs) (t ∷ ts) = number_for k r t
 
+-- that of the second
 abbrev pub second_number : Known → List Role → List (List ℕ) → ℕ
 second_number k [] ts = 0
 second_number k (r ∷ rs) [] = 0
 second_number k (r ∷ rs) (t ∷ ts) = first_number k rs ts
 
+-- and of the third
 abbrev pub third_number : Known → List Role → List (List ℕ) → ℕ
 third_number k [] ts = 0
 third_number k (r ∷ rs) [] = 0

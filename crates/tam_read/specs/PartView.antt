@@ -7,6 +7,7 @@ use Rattle.tam_read.specs.LineView.{saying, numbered}
 use Rattle.tam_read.specs.Parts.{Part, Piece, code_built}
 use Rattle.tam_read.specs.BuildingView.{built_so_far}
 
+-- what is read of a code
 abbrev pub part : Fields → Part
 part p = record { code = code_built p.name.now (built_so_far p.built); line = p.line; lines = p.lines.items }
 

@@ -60,6 +60,7 @@ or_nameless (n ∷ ns) = n
 abbrev pub code_built : List ℕ → Built → Code
 code_built name b = record { name = name; nodes = b.nodes; owners = b.owners }
 
+-- what a code's lines make
 abbrev pub part_made : Entries → Piece → Part
 part_made codes q = record {
   code = code_built (or_nameless (code_begun q.head)) (built (known_in codes q.body) nothing_built (sayings q.body));

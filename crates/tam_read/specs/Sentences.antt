@@ -91,9 +91,11 @@ abbrev pub is_cond : Verb → Bool
 is_cond verb.Cond = true
 is_cond v = false
 
+-- every operator
 abbrev pub all_ops : List Op
 all_ops = Add ∷ Sub ∷ Mul ∷ Div ∷ Divu ∷ Rem ∷ Remu ∷ And ∷ Or ∷ Xor ∷ Sll ∷ Srl ∷ Sra ∷ Slt ∷ Sltu ∷ Eq ∷ []
 
+-- every verb
 abbrev pub all_verbs : List Verb
 all_verbs =
     verb.Param ∷ verb.Const ∷ verb.Seq ∷ verb.Call ∷ verb.Arg ∷ verb.Ret ∷ verb.Give ∷ verb.Alloc ∷ verb.Fetch ∷ verb.Store ∷ verb.Cond ∷ verb.Switch

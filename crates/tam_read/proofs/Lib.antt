@@ -40,3 +40,4 @@ pub mod Assembled
 pub mod WrittenTrees
 pub mod WrittenCodes
 pub mod KindsAgain
+pub mod TokensBack

@@ -41,3 +41,4 @@ pub mod WrittenTrees
 pub mod WrittenCodes
 pub mod KindsAgain
 pub mod TokensBack
+pub mod LinesBack

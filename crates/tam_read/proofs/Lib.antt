@@ -42,3 +42,4 @@ pub mod WrittenCodes
 pub mod KindsAgain
 pub mod TokensBack
 pub mod LinesBack
+pub mod TreeBack

@@ -43,3 +43,4 @@ pub mod KindsAgain
 pub mod TokensBack
 pub mod LinesBack
 pub mod TreeBack
+pub mod NodesBack

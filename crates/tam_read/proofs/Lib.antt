@@ -44,3 +44,4 @@ pub mod TokensBack
 pub mod LinesBack
 pub mod TreeBack
 pub mod NodesBack
+pub mod CodeBack

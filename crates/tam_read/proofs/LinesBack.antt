@@ -57,7 +57,7 @@ no-tokens : AreTokens [] []
 no-tokens = record { many = refl; named = refl; numbered = refl }
 
 -- where all pass, the first does, and those behind it
-first-role : (r : Role) (rs : List Role) → all_of is_no_code (r ∷ rs) ≡ true → (is_no_code r ≡ true) × (all_of is_no_code rs ≡ true)
+pub first-role : (r : Role) (rs : List Role) → all_of is_no_code (r ∷ rs) ≡ true → (is_no_code r ≡ true) × (all_of is_no_code rs ≡ true)
 first-role r rs h = go (is_no_code r) refl
   where
     go : (b : Bool) → is_no_code r ≡ b → (is_no_code r ≡ true) × (all_of is_no_code rs ≡ true)

@@ -1,0 +1,47 @@
+-- The graph and the lines of what was read.
+use Rattle.std.proofs.Common.{◌≡◌, ℕ, suc, ◌+◌, ◌<◌, ◌≤◌, List, [], ◌∷◌, ◌++◌, length, map, Some, refl, sym, ap, ap₂, subst, ◌∙◌, arith}
+use Rattle.std.specs.Prelude.{slice_get}
+use Rattle.std.proofs.lemmas.List.{length-append}
+use Rattle.tam_graph.specs.Graphs.{Code, Graph, graph_of, code_of, or_code}
+use Rattle.tam_graph.specs.Reading.{IsCode, IsCodeOfText, IsOfText, Reads}
+use Rattle.tam_read.specs.declared.part.Part.{Part as Fields}
+use Rattle.tam_read.specs.Faults.{faults}
+use Rattle.tam_read.specs.Parts.{Part, parts_in}
+use Rattle.tam_read.specs.PartView.{part, code_of_part, lines_of_part}
+use Rattle.tam_read.specs.Placed.{lines_in}
+use Rattle.tam_read.proofs.ReadCodes.{codes_read}
+use Rattle.tam_read.proofs.OfText.{faultless-reads}
+
+-- an element behind others stands at their number
+at-front : (front : List Code) (c : Code) (back : List Code) → slice_get (front ++ c ∷ back) (length front) ≡ Some c
+at-front [] c back = refl
+at-front (f ∷ fs) c back = at-front fs c back
+
+-- a code of a graph of a text is a code of a text
+pub code-of-text : (front : List Code) (c : Code) (back all : List Code) → front ++ c ∷ back ≡ all → IsOfText (graph_of all) → IsCode c
+code-of-text front c back all parts of =
+    let long : length front + suc (length back) ≡ length all = sym (length-append front (c ∷ back)) ∙ ap length parts in
+    let is : code_of (graph_of all) (length front) ≡ c = ap (λ cs. or_code (slice_get cs (length front))) (sym parts) ∙ ap or_code (at-front front c back) in
+    (length all, of.few_codes, subst (λ d. IsCodeOfText (length all) d) is (of.each_code (length front) (omega arith)))
+
+-- the codes of what was read
+codes-of-parts : (ps : List Fields) → map code_of_part ps ≡ map (λ p. p.code) (map part ps)
+codes-of-parts [] = refl
+codes-of-parts (p ∷ ps) = ap (λ cs. code_of_part p ∷ cs) (codes-of-parts ps)
+
+-- and their lines
+lines-of-parts : (ps : List Fields) → map lines_of_part ps ≡ map (λ p. (p.line, p.lines)) (map part ps)
+lines-of-parts [] = refl
+lines-of-parts (p ∷ ps) = ap (λ ls. lines_of_part p ∷ ls) (lines-of-parts ps)
+
+-- the codes of a text
+pub codes-are : (bytes : List ℕ) (ps : List Fields) → map part ps ≡ parts_in bytes → map code_of_part ps ≡ codes_read bytes
+codes-are bytes ps e = codes-of-parts ps ∙ ap (map (λ p. p.code)) e
+
+-- and the lines of their places
+pub lines-are : (bytes : List ℕ) (ps : List Fields) → map part ps ≡ parts_in bytes → map lines_of_part ps ≡ lines_in bytes
+lines-are bytes ps e = lines-of-parts ps ∙ ap (map (λ p. (p.line, p.lines))) e
+
+-- the text reads as their graph
+pub parts-read : (bytes : List ℕ) (ps : List Fields) → map part ps ≡ parts_in bytes → faults bytes ≡ [] → Reads bytes (graph_of (map code_of_part ps))
+parts-read bytes ps e none = subst (λ cs. Reads bytes (graph_of cs)) (sym (codes-are bytes ps e)) (faultless-reads bytes none)

@@ -16,10 +16,14 @@ pub returns-then-args-params : goal.returns-then-args-params
 returns-then-args-params g c = record {
   done = λ ask left bytes file text.
       said-done ask left _ _ _ _ c.say.result.code 2 (usage_line ArgsCount)
-      (wrong_count file.job file.told file.few (record { text = text; of_text = c.graph-graph.ensures.of_text;
-          accepted = c.graph-graph.ensures.accepted; built = c.requires.built })
+      (wrong_count file.job file.told file.few (record {
+        text = text;
+        of_text = c.graph-graph.ensures.of_text;
+        accepted = c.graph-graph.ensures.accepted;
+        built = c.requires.built;
+      })
       (λ e. c.if-args-params.true (e ∙ sym (same-params c.args.g.now c.main.result c.params.result
-          (c.main.ensures.value ∙ ap (λ h. h.main) c.graph-graph.ensures.value) c.params.ensures.value))))
+      (c.main.ensures.value ∙ ap (λ h. h.main) c.graph-graph.ensures.value) c.params.ensures.value))))
       usage c.say.ensures.said c.say.ensures.fault;
   read = not-three c.say.result.code 2 (λ e. absurd (omega (arith, e))) c.say.ensures.said;
 }
@@ -27,7 +31,7 @@ returns-then-args-params g c = record {
 pub run-requires-clause-arguments : goal.run-requires-clause-arguments
 run-requires-clause-arguments g c =
     are-arguments c.args.g.now c.args.args.now c.main.result c.params.result
-        (c.main.ensures.value ∙ ap (λ h. h.main) c.graph-graph.ensures.value) c.params.ensures.value c.if-args-params.false c.type_inv.args
+    (c.main.ensures.value ∙ ap (λ h. h.main) c.graph-graph.ensures.value) c.params.ensures.value c.if-args-params.false c.type_inv.args
 
 pub returns-in-Quiet : goal.returns-in-Quiet
 returns-in-Quiet g c = record {
@@ -36,7 +40,7 @@ returns-in-Quiet g c = record {
       (asks-run ask left c.args.g.now c.args.args.now bytes file
       (record { text = text; of_text = c.graph-graph.ensures.of_text; accepted = c.graph-graph.ensures.accepted; built = c.requires.built })
       (c.if-args-params.false ∙ same-params c.args.g.now c.main.result c.params.result
-          (c.main.ensures.value ∙ ap (λ h. h.main) c.graph-graph.ensures.value) c.params.ensures.value))
+      (c.main.ensures.value ∙ ap (λ h. h.main) c.graph-graph.ensures.value) c.params.ensures.value))
       (subst (λ order. Writes (graph_told c.args.g.now c.args.args.now order usual_limits) (g.K.Sink.taken c.args.out.now) (g.K.Sink.taken c.run.new.out)
       (outcome.Quiet c.in-Quiet.missing)) c.none.ensures.empty c.in-Quiet.ensures.text).0;
   read = λ e. absurd (omega (arith, e));
@@ -49,7 +53,7 @@ returns-in-WriteFault g c = record {
       (asks-run ask left c.args.g.now c.args.args.now bytes file
       (record { text = text; of_text = c.graph-graph.ensures.of_text; accepted = c.graph-graph.ensures.accepted; built = c.requires.built })
       (c.if-args-params.false ∙ same-params c.args.g.now c.main.result c.params.result
-          (c.main.ensures.value ∙ ap (λ h. h.main) c.graph-graph.ensures.value) c.params.ensures.value))
+      (c.main.ensures.value ∙ ap (λ h. h.main) c.graph-graph.ensures.value) c.params.ensures.value))
       (subst (λ order. Writes (graph_told c.args.g.now c.args.args.now order usual_limits) (g.K.Sink.taken c.args.out.now) (g.K.Sink.taken c.run.new.out)
       outcome.WriteFault) c.none.ensures.empty c.in-WriteFault.ensures.text)
       c.in-WriteFault.ensures.counted;
@@ -63,11 +67,11 @@ returns-in-Stopped g c = record {
       (asks-run ask left c.args.g.now c.args.args.now bytes file
       (record { text = text; of_text = c.graph-graph.ensures.of_text; accepted = c.graph-graph.ensures.accepted; built = c.requires.built })
       (c.if-args-params.false ∙ same-params c.args.g.now c.main.result c.params.result
-          (c.main.ensures.value ∙ ap (λ h. h.main) c.graph-graph.ensures.value) c.params.ensures.value))
+      (c.main.ensures.value ∙ ap (λ h. h.main) c.graph-graph.ensures.value) c.params.ensures.value))
       (stopped-lines (run_of c.args.g.now c.args.args.now) _ _ c.in-Stopped.field-0
       (c.law_first_run.ensures.first_run c.args.g.now c.args.args.now [] usual_limits c.graph-graph.ensures.accepted c.requires.built
       (are-arguments c.args.g.now c.args.args.now c.main.result c.params.result
-          (c.main.ensures.value ∙ ap (λ h. h.main) c.graph-graph.ensures.value) c.params.ensures.value c.if-args-params.false c.type_inv.args)
+      (c.main.ensures.value ∙ ap (λ h. h.main) c.graph-graph.ensures.value) c.params.ensures.value c.if-args-params.false c.type_inv.args)
       are-limits (omega arith)).quiet
       (subst (λ order. Writes (graph_told c.args.g.now c.args.args.now order usual_limits) (g.K.Sink.taken c.args.out.now) (g.K.Sink.taken c.run.new.out)
       (outcome.Stopped c.in-Stopped.field-0)) c.none.ensures.empty c.in-Stopped.ensures.text))

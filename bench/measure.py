@@ -12,7 +12,7 @@ import sys
 import tempfile
 import time
 
-RUNS = 5
+RUNS = 40
 
 OPERATORS = "add sub mul div divu rem remu and or xor sll srl sra slt sltu eq".split()
 

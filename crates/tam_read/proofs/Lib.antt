@@ -45,3 +45,4 @@ pub mod LinesBack
 pub mod TreeBack
 pub mod NodesBack
 pub mod CodeBack
+pub mod CodeSame

@@ -46,3 +46,4 @@ pub mod TreeBack
 pub mod NodesBack
 pub mod CodeBack
 pub mod CodeSame
+pub mod CleanBack

@@ -88,39 +88,45 @@ pub sentence-clean : (before : List Sentence) (s : Sentence) → has_bad_name s 
     → passes before s Codes ≡ false → passes before s CodeVertices ≡ false → passes before s BlockVertices ≡ false → passes before s Nesting ≡ false → faults_of_sentence before s ≡ []
 sentence-clean before s a b d e f g h i = rw (faults_of_sentence, a, b, d, e, f, g, h, i) refl
 
-both-false : (t u : Bool) → u ≡ false → (t && u) ≡ false
+pub both-false : (t u : Bool) → u ≡ false → (t && u) ≡ false
 both-false true u e = e
 both-false false u e = refl
 
-first-false : (t u : Bool) → t ≡ false → (t && u) ≡ false
+pub first-false : (t u : Bool) → t ≡ false → (t && u) ≡ false
 first-false false u e = refl
 first-false true u e = absurd (true≢false e)
 
 -- the verb is a node's, or closes a block
-plain-code : (v : Verb) → is_plain_verb v ≡ true → (is_code v ≡ false) × (is_cond v ≡ false)
+pub plain-code : (v : Verb) → is_plain_verb v ≡ true → (is_code v ≡ false) × (is_cond v ≡ false)
 plain-code verb.Code e = absurd (true≢false (sym e))
 plain-code verb.Cond e = absurd (true≢false (sym e))
 plain-code v e = (refl, refl)
 
-plain-place : (v : Verb) (o : Opening) (os : List Opening) → is_plain_verb v ≡ true → is_out_of_place v (o ∷ os) ≡ false
+pub plain-place : (v : Verb) (o : Opening) (os : List Opening) → is_plain_verb v ≡ true → is_out_of_place v (o ∷ os) ≡ false
 plain-place verb.Code o os e = absurd (true≢false (sym e))
 plain-place verb.Else o os e = absurd (true≢false (sym e))
 plain-place verb.End o os e = absurd (true≢false (sym e))
 plain-place v o os e = refl
 
 -- a line of a code, not its first
-line-clean : (before : List Sentence) (o : Open) (os : List Open) (s : Sentence) → open_after before ≡ o ∷ os → has_bad_name s ≡ false → has_bad_number s ≡ false → is_code s.verb ≡ false
-    → is_out_of_place s.verb (o.opening ∷ map (λ p. p.opening) os) ≡ false → Apart (names_made s) (flat_map names_made (until_code before)) → vertices_of s.verb + vertices (until_code before) ≤ 1024
-    → vertices_of s.verb + vertices o.own ≤ 128 → (is_cond s.verb ≡ false) ⊎ (suc (length os) ≤ 16) → faults_of_sentence before s ≡ []
+pub line-clean : (before : List Sentence) (o : Open) (os : List Open) (s : Sentence) → open_after before ≡ o ∷ os → has_bad_name s ≡ false
+    → has_bad_number s ≡ false → is_code s.verb ≡ false → is_out_of_place s.verb (o.opening ∷ map (λ p. p.opening) os) ≡ false
+    → Apart (names_made s) (flat_map names_made (until_code before)) → vertices_of s.verb + vertices (until_code before) ≤ 1024
+    → (vertices_of s.verb ≡ 0) ⊎ (vertices_of s.verb + vertices o.own ≤ 128) → (is_cond s.verb ≡ false) ⊎ (suc (length os) ≤ 16) → faults_of_sentence before s ≡ []
 line-clean before o os s e a b no_code place apart code block nest =
     let begun : code_begun s ≡ [] = rw (code_begun, no_code) refl in
     let again : is_named_again before s ≡ false = rw (is_named_again, begun) (apart-unshared (names_made s) (flat_map names_made (until_code before)) apart) in
-    let open_own : vertices_of s.verb + vertices o.own ≤ 128 = block in
+    let some = nat_lt 0 (vertices_of s.verb) in
+    let many = nat_lt 128 (vertices_of s.verb + vertices o.own) in
+    let nested = nat_lt 16 (suc (length os)) in
+    let in_block : (some && many) ≡ false =
+    ⊎_elim (λ h. first-false some many (ap (nat_lt 0) h)) (λ h. both-false some many (le-ltb 128 (vertices_of s.verb + vertices o.own) h)) block in
+    let in_conds : (is_cond s.verb && nested) ≡ false =
+    ⊎_elim (λ h. first-false (is_cond s.verb) nested h) (λ h. both-false (is_cond s.verb) nested (le-ltb 16 (suc (length os)) h)) nest in
     sentence-clean before s a b (ap (λ ps. is_out_of_place s.verb (map (λ p. p.opening) ps)) e ∙ place) again
     (first-false (is_code s.verb) (nat_lt 255 (length (flat_map code_begun before))) no_code)
-    (both-false (nat_lt 0 (vertices_of s.verb)) (nat_lt 1024 (vertices (s ∷ until_code before))) (le-ltb 1024 (vertices (s ∷ until_code before)) code))
-    (rw e (both-false (nat_lt 0 (vertices_of s.verb)) (nat_lt 128 (vertices_of s.verb + vertices o.own)) (le-ltb 128 (vertices_of s.verb + vertices o.own) block)))
-    (rw e (⊎_elim (λ h. first-false (is_cond s.verb) (nat_lt 16 (suc (length os))) h) (λ h. both-false (is_cond s.verb) (nat_lt 16 (suc (length os))) (le-ltb 16 (suc (length os)) h)) nest))
+    (both-false some (nat_lt 1024 (vertices (s ∷ until_code before))) (le-ltb 1024 (vertices (s ∷ until_code before)) code))
+    (rw e in_block) (rw e in_conds)
 
 -- ---- a tree
 
@@ -129,7 +135,7 @@ pub record IsOpenBehind (t : Tree) (before : List Sentence) (o : Open) (os : Lis
   pub own : List Sentence
   pub opens : open_after (put_before before (flat t)) ≡ record { opening = o.opening; own = own } ∷ os
 
-plain-open : (s : Sentence) (v : Verb) (o : Open) (os : List Open) → is_plain_verb v ≡ true → open_behind s v (o ∷ os) ≡ record { opening = o.opening; own = s ∷ o.own } ∷ os
+pub plain-open : (s : Sentence) (v : Verb) (o : Open) (os : List Open) → is_plain_verb v ≡ true → open_behind s v (o ∷ os) ≡ record { opening = o.opening; own = s ∷ o.own } ∷ os
 plain-open s verb.Code o os e = absurd (true≢false (sym e))
 plain-open s verb.Cond o os e = absurd (true≢false (sym e))
 plain-open s verb.Else o os e = absurd (true≢false (sym e))

@@ -47,3 +47,4 @@ pub mod NodesBack
 pub mod CodeBack
 pub mod CodeSame
 pub mod CleanBack
+pub mod CodesClean

@@ -48,3 +48,4 @@ pub mod CodeBack
 pub mod CodeSame
 pub mod CleanBack
 pub mod CodesClean
+pub mod FirstBack

@@ -49,3 +49,4 @@ pub mod CodeSame
 pub mod CleanBack
 pub mod CodesClean
 pub mod FirstBack
+pub mod CodesBack

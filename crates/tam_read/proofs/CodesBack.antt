@@ -111,7 +111,7 @@ pub record IsCodeBack (g : Graph) (c : Code) (ws : List (List (List ℕ))) : Typ
   pub said : IsSaidCode g c lines
   pub words : ws ≡ map words_said (lines_of_code lines)
 
-two-back : (w : List (List ℕ)) (a b : List ℕ) → same_line w (Bytes a ∷ Bytes b ∷ []) ≡ true → w ≡ a ∷ b ∷ []
+pub two-back : (w : List (List ℕ)) (a b : List ℕ) → same_line w (Bytes a ∷ Bytes b ∷ []) ≡ true → w ≡ a ∷ b ∷ []
 two-back [] a b h = absurd (true≢false (sym h))
 two-back (t ∷ []) a b h = absurd (true≢false (sym (both-true (same_bytes t a) false h).1))
 two-back (t ∷ u ∷ []) a b h =

@@ -50,3 +50,5 @@ pub mod CleanBack
 pub mod CodesClean
 pub mod FirstBack
 pub mod CodesBack
+pub mod TextBack
+pub mod Complete

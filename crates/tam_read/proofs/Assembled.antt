@@ -10,6 +10,11 @@ use Rattle.tam_read.specs.Parts.{Part, parts_in}
 use Rattle.tam_read.specs.PartView.{part, code_of_part, lines_of_part}
 use Rattle.tam_read.specs.Placed.{lines_in}
 use Rattle.tam_read.proofs.ReadCodes.{codes_read}
+use Rattle.tam_read.specs.declared.cause.ReadCause.{ReadCause}
+use Rattle.tam_read.specs.declared.refused.Refused.{Refused}
+use Rattle.tam_read.specs.declared.refused.Refused.TheVariants.{At, NoMemory}
+use Rattle.tam_read.specs.Refusals.{IsFirst}
+use Rattle.tam_read.proofs.Complete.{complete}
 use Rattle.tam_read.proofs.OfText.{faultless-reads}
 
 -- an element behind others stands at their number
@@ -45,3 +50,15 @@ lines-are bytes ps e = lines-of-parts ps ∙ ap (map (λ p. (p.line, p.lines))) 
 -- the text reads as their graph
 pub parts-read : (bytes : List ℕ) (ps : List Fields) → map part ps ≡ parts_in bytes → faults bytes ≡ [] → Reads bytes (graph_of (map code_of_part ps))
 parts-read bytes ps e none = subst (λ cs. Reads bytes (graph_of cs)) (sym (codes-are bytes ps e)) (faultless-reads bytes none)
+
+-- a text that reads as a graph is refused for want of memory alone
+pub only-memory : (bytes : List ℕ) (g : Graph) → Reads bytes g → (e : Refused) → IsFirst (faults bytes) e → e ≡ NoMemory
+only-memory bytes g r e h = none e (subst (λ fs. IsFirst fs e) (complete bytes g r).0 h)
+  where
+    none : (e : Refused) → IsFirst [] e → e ≡ NoMemory
+    none (At line cause) k = absurd cc
+    none NoMemory k = refl
+
+-- and read as that graph
+pub only-graph : (bytes : List ℕ) (ps : List Fields) → map part ps ≡ parts_in bytes → (g : Graph) → Reads bytes g → graph_of (map code_of_part ps) ≡ g
+only-graph bytes ps e g r = ap graph_of (codes-are bytes ps e) ∙ sym (complete bytes g r).1

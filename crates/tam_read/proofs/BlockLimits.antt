@@ -267,7 +267,7 @@ outer-few t h bound = let i = own-few 0 t 1 h 0 (omega arith) (omega arith) boun
 -- ---- all blocks together
 
 -- a number before a row isn't in it
-total-none : (b v n m : ℕ) → b < n → total (λ d. where_true (b == d) v) (in_row n m) ≡ 0
+pub total-none : (b v n m : ℕ) → b < n → total (λ d. where_true (b == d) v) (in_row n m) ≡ 0
 total-none b v n zero lt = refl
 total-none b v n (suc m) lt =
     let off : (b == n) ≡ false = differs-number b n (λ e. omega arith) in
@@ -285,7 +285,7 @@ total-once b v n (suc m) = go (b == n) refl (total-once b v (suc n) m)
     go true e i = let is : b ≡ n = number-eq b n e in let z = total-none b v (suc n) m (omega arith) in rw e (omega (arith, z))
 
 -- the total of sums is the sum of totals
-total-both : (f g : ℕ → ℕ) (xs : List ℕ) → total (λ d. f d + g d) xs ≡ total f xs + total g xs
+pub total-both : (f g : ℕ → ℕ) (xs : List ℕ) → total (λ d. f d + g d) xs ≡ total f xs + total g xs
 total-both f g [] = refl
 total-both f g (x ∷ xs) = let i = total-both f g xs in omega (arith, i)
 
@@ -326,17 +326,19 @@ blocks-few n (Branch s y t o e r) b k f =
 
 -- ---- a code of a tree
 
-module _ (q : Known) (t : Tree) (c : Code) (of : IsOfTree q t c) (bound : Bounded t 0 0) where
-  vertices-are : (d : ℕ) → number_of_vertices c d ≡ counted d t 0 1
+module _ (q : Known) (t : Tree) (c : Code) (of : IsOfTree q t c) where
+  -- a block's vertices are those of its lines
+  pub vertices-are : (d : ℕ) → number_of_vertices c d ≡ counted d t 0 1
   vertices-are d =
       total-sum (vertices_at c) (nodes_in c d) ∙ total-filter (vertices_at c) (λ x. block_at c x == d) (node_numbers c)
       ∙ ap (total (λ x. where_true (block_at c x == d) (vertices_at c x))) (below-row (length c.nodes) ∙ ap (in_row 0) (few-nodes q t c of))
       ∙ tree-counted c q d t 0 0 1 of.fits (stands q t c of)
 
+module _ (q : Known) (t : Tree) (c : Code) (of : IsOfTree q t c) (bound : Bounded t 0 0) where
   pub blocks-small : all_of (λ b. nat_lt (number_of_vertices c b) 129) (blocks_of c) ≡ true
   blocks-small = in-all (λ b. nat_lt (number_of_vertices c b) 129) (blocks_of c) (λ d i.
       let within : d < length c.owners = in-below d (length c.owners) i in
-      let many : number_of_vertices c d ≡ counted d t 0 1 = vertices-are d in
+      let many : number_of_vertices c d ≡ counted d t 0 1 = vertices-are q t c of d in
       let blocks = few-blocks q t c of in
       let few : counted d t 0 1 ≤ 128 = ⊎_elim
       (λ (z : d < 1). let is : 0 ≡ d = omega arith in subst (λ w. counted w t 0 1 ≤ 128) is (outer-few t 0 bound))
@@ -354,7 +356,7 @@ module _ (q : Known) (t : Tree) (c : Code) (of : IsOfTree q t c) (bound : Bounde
     where
       alike : (xs : List ℕ) → total (number_of_vertices c) xs ≡ total (λ d. counted d t 0 1) xs
       alike [] = refl
-      alike (x ∷ xs) = ap₂ (λ a b. a + b) (vertices-are x) (alike xs)
+      alike (x ∷ xs) = ap₂ (λ a b. a + b) (vertices-are q t c of x) (alike xs)
 
   pub blocks-shallow : all_of (λ b. nat_lt (depth_of_block (length c.owners) c b) 17) (blocks_of c) ≡ true
   blocks-shallow = in-all (λ b. nat_lt (depth_of_block (length c.owners) c b) 17) (blocks_of c) (λ d i.

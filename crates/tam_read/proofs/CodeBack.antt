@@ -43,7 +43,7 @@ AreEqual (r ∷ s ∷ []) a b d x y z = (a ≡ x) × (b ≡ y)
 AreEqual (r ∷ s ∷ t ∷ rs) a b d x y z = (a ≡ x) × (b ≡ y) × (d ≡ z)
 
 -- so is the kind
-kind-from : (k : Kind) (a b d : ℕ) → AreEqual (roles_of (verb_of k)) a b d (first_of_kind k) (second_of_kind k) (third_of_kind k) → else_kind (else_of_kind k) (kind_made (verb_of k) a b d (then_of_kind k)) ≡ k
+pub kind-from : (k : Kind) (a b d : ℕ) → AreEqual (roles_of (verb_of k)) a b d (first_of_kind k) (second_of_kind k) (third_of_kind k) → else_kind (else_of_kind k) (kind_made (verb_of k) a b d (then_of_kind k)) ≡ k
 kind-from (kind.Param k) a b d e = ap kind.Param e
 kind-from (kind.Const w) a b d e = ap kind.Const e
 kind-from (kind.Op o x y) a b d e = ap₂ (kind.Op o) e.0 e.1
@@ -78,7 +78,7 @@ drop-get [] k x e = absurd cc
 drop-get (y ∷ ys) zero x e = let same : y ≡ x = cc in ap (λ z. z ∷ ys) same
 drop-get (y ∷ ys) (suc k) x e = drop-get ys k x e
 
-drop-all : {X : Type 0} (xs : List X) → drop (length xs) xs ≡ []
+pub drop-all : {X : Type 0} (xs : List X) → drop (length xs) xs ≡ []
 drop-all [] = refl
 drop-all (x ∷ xs) = drop-all xs
 

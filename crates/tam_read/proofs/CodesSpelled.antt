@@ -92,7 +92,7 @@ none-begun : (s : Sentence) (n : ℕ) → is_code s.verb ≡ false → code_entr
 none-begun s n e = rw (code_entries, code_begun, e) refl
 
 -- lines without a code have no entry of a code
-skip-lines : (n : ℕ) (xs rest : List Sentence) → NoCode xs → code_list n (xs ++ rest) ≡ code_list n rest
+pub skip-lines : (n : ℕ) (xs rest : List Sentence) → NoCode xs → code_list n (xs ++ rest) ≡ code_list n rest
 skip-lines n [] rest none = refl
 skip-lines n (x ∷ xs) rest none =
     ap (λ es. es ++ code_list (code_behind x.verb n) (xs ++ rest)) (none-begun x n none.0) ∙ ap (λ k. code_list k (xs ++ rest)) (plain-behind x.verb n none.0)
@@ -126,7 +126,7 @@ code-entered (d ∷ ds) first t m i =
     (in-append (t, m) (code_entries first d.head) (code_list (code_behind d.head.verb first) (body_lines d ++ lines_of_codes ds)) i)
 
 -- an element of an image
-get-mapped : {X Y : Type 0} (f : X → Y) (xs : List X) (k : ℕ) (x : X) → slice_get xs k ≡ Some x → slice_get (map f xs) k ≡ Some (f x)
+pub get-mapped : {X Y : Type 0} (f : X → Y) (xs : List X) (k : ℕ) (x : X) → slice_get xs k ≡ Some x → slice_get (map f xs) k ≡ Some (f x)
 get-mapped f [] k x e = absurd cc
 get-mapped f (y ∷ ys) zero x e = let same : y ≡ x = cc in ap (λ z. Some (f z)) same
 get-mapped f (y ∷ ys) (suc k) x e = get-mapped f ys k x e

@@ -45,3 +45,10 @@ pub mod LinesBack
 pub mod TreeBack
 pub mod NodesBack
 pub mod CodeBack
+pub mod CodeSame
+pub mod CleanBack
+pub mod CodesClean
+pub mod FirstBack
+pub mod CodesBack
+pub mod TextBack
+pub mod Complete

@@ -54,7 +54,7 @@ mapped f [] = refl
 mapped f (x ∷ xs) = ap suc (mapped f xs)
 
 -- a line has at most one name
-few-names : (s : Sentence) → has_form s.name s.rest s.verb ≡ true → length (names_made s) ≤ 1
+pub few-names : (s : Sentence) → has_form s.name s.rest s.verb ≡ true → length (names_made s) ≤ 1
 few-names s f = go (makes s.verb) refl
   where
     go : (o : Option Role) → makes s.verb ≡ o → length (names_made s) ≤ 1

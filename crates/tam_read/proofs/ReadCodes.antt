@@ -130,12 +130,12 @@ pub code-of-tree : (codes : Entries) (d : CodeLines) → IsOfTree (known_of code
 code-of-tree codes d = record { fits = d.fits; nodes = refl; owners = refl }
 
 -- so are all
-codes-said : (codes : Entries) (ds : List CodeLines) → map (code_said codes) (map (λ d. (d.head, body_lines d)) ds) ≡ map (code_of_lines codes) ds
+pub codes-said : (codes : Entries) (ds : List CodeLines) → map (code_said codes) (map (λ d. (d.head, body_lines d)) ds) ≡ map (code_of_lines codes) ds
 codes-said codes [] = refl
 codes-said codes (d ∷ ds) = ap₂ (λ c cs. c ∷ cs) (code-said codes d) (codes-said codes ds)
 
 -- the codes of pieces
-codes-of-pieces : (codes : Entries) (qs : List Piece) → map (λ p. p.code) (map (part_made codes) qs) ≡ map (code_said codes) (map unnumbered qs)
+pub codes-of-pieces : (codes : Entries) (qs : List Piece) → map (λ p. p.code) (map (part_made codes) qs) ≡ map (code_said codes) (map unnumbered qs)
 codes-of-pieces codes [] = refl
 codes-of-pieces codes (q ∷ qs) = ap (λ cs. code_said codes (unnumbered q) ∷ cs) (codes-of-pieces codes qs)
 

@@ -23,7 +23,7 @@ use Rattle.tam_read.proofs.Worded.{words_said, IsSaidSo, words-back}
 -- ---- bytes
 
 -- the first byte of the first line is that of the bytes
-first-line : (bs : List ℕ) (l : List ℕ) (ls : List (List ℕ)) → lines_of bs ≡ l ∷ ls → is_at_end l ≡ is_at_end bs
+pub first-line : (bs : List ℕ) (l : List ℕ) (ls : List (List ℕ)) → lines_of bs ≡ l ∷ ls → is_at_end l ≡ is_at_end bs
 first-line [] l ls e = absurd cc
 first-line (b ∷ bs) l ls e = go (b == 10) refl (lines_of bs) refl
   where
@@ -33,7 +33,7 @@ first-line (b ∷ bs) l ls e = go (b == 10) refl (lines_of bs) refl
     go false p (m ∷ ms) q = let one : b ∷ m ≡ l = (let z : (b ∷ m) ∷ ms ≡ l ∷ ls = rw (lines_of, p, q) at e in cc) in ap is_at_end (sym one)
 
 -- where all pass, the first does, and those behind it
-first-of : {X : Type 0} (f : X → Bool) (x : X) (xs : List X) → all_of f (x ∷ xs) ≡ true → (f x ≡ true) × (all_of f xs ≡ true)
+pub first-of : {X : Type 0} (f : X → Bool) (x : X) (xs : List X) → all_of f (x ∷ xs) ≡ true → (f x ≡ true) × (all_of f xs ≡ true)
 first-of f x xs e = go (f x) refl
   where
     go : (b : Bool) → f x ≡ b → (f x ≡ true) × (all_of f xs ≡ true)
@@ -41,7 +41,7 @@ first-of f x xs e = go (f x) refl
     go false p = absurd (true≢false (sym (rw (all_of, p) at e)))
 
 -- where bytes are good, the first is, and those behind it
-good-parts : (b : ℕ) (bs : List ℕ) → are_good_bytes (b ∷ bs) ≡ true → (is_good_byte b bs ≡ true) × (are_good_bytes bs ≡ true)
+pub good-parts : (b : ℕ) (bs : List ℕ) → are_good_bytes (b ∷ bs) ≡ true → (is_good_byte b bs ≡ true) × (are_good_bytes bs ≡ true)
 good-parts b bs e = go (is_good_byte b bs) refl
   where
     go : (t : Bool) → is_good_byte b bs ≡ t → (is_good_byte b bs ≡ true) × (are_good_bytes bs ≡ true)
@@ -49,7 +49,7 @@ good-parts b bs e = go (is_good_byte b bs) refl
     go false p = absurd (true≢false (sym (rw (are_good_bytes, p) at e)))
 
 -- and the other way round
-good-both : (b : ℕ) (bs : List ℕ) → is_good_byte b bs ≡ true → are_good_bytes bs ≡ true → are_good_bytes (b ∷ bs) ≡ true
+pub good-both : (b : ℕ) (bs : List ℕ) → is_good_byte b bs ≡ true → are_good_bytes bs ≡ true → are_good_bytes (b ∷ bs) ≡ true
 good-both b bs p q = rw (are_good_bytes, p) q
 
 -- where each line's bytes are good, all are

@@ -42,7 +42,7 @@ node-there [] x l = absurd (omega arith)
 node-there (n ∷ ns) zero l = (n, refl)
 node-there (n ∷ ns) (suc x) l = node-there ns x (omega arith)
 
-operand-kind : (c : Code) (a : ℕ) (k : Kind) → kind_at c a ≡ k → is_operand c a ≡ true → (is_named k ≡ true) × (named_for role.Value (verb_of k) ≡ true)
+pub operand-kind : (c : Code) (a : ℕ) (k : Kind) → kind_at c a ≡ k → is_operand c a ≡ true → (is_named k ≡ true) × (named_for role.Value (verb_of k) ≡ true)
 operand-kind c a (kind.Param k) e h = (refl, refl)
 operand-kind c a (kind.Const w) e h = (refl, refl)
 operand-kind c a (kind.Op o x y) e h = (refl, refl)

@@ -37,14 +37,14 @@ SaysAll g c (Branch s y t n e r) x =
     × SaysAll g c r (suc x + size (shape y) + size (shape n))
 
 -- lines that spell lines one behind the other
-record AreSplit (ws : List (List (List ℕ))) (ls ms : List Line) : Type 0 where
-  front : List (List (List ℕ))
-  back : List (List (List ℕ))
-  parts : ws ≡ front ++ back
-  first : same_lines front ls ≡ true
-  second : same_lines back ms ≡ true
+pub record AreSplit (ws : List (List (List ℕ))) (ls ms : List Line) : Type 0 where
+  pub front : List (List (List ℕ))
+  pub back : List (List (List ℕ))
+  pub parts : ws ≡ front ++ back
+  pub first : same_lines front ls ≡ true
+  pub second : same_lines back ms ≡ true
 
-split-lines : (ws : List (List (List ℕ))) (ls ms : List Line) → same_lines ws (ls ++ ms) ≡ true → AreSplit ws ls ms
+pub split-lines : (ws : List (List (List ℕ))) (ls ms : List Line) → same_lines ws (ls ++ ms) ≡ true → AreSplit ws ls ms
 split-lines ws [] ms h = record { front = []; back = ws; parts = refl; first = refl; second = h }
 split-lines [] (l ∷ ls) ms h = absurd (true≢false (sym h))
 split-lines (w ∷ ws) (l ∷ ls) ms h =
@@ -53,14 +53,14 @@ split-lines (w ∷ ws) (l ∷ ls) ms h =
     record { front = w ∷ i.front; back = i.back; parts = ap (λ vs. w ∷ vs) i.parts; first = both-hold (same_line w l) (same_lines i.front ls) p.0 i.first; second = i.second }
 
 -- a line before others
-record IsFirst (ws : List (List (List ℕ))) (l : Line) (ls : List Line) : Type 0 where
-  line : List (List ℕ)
-  others : List (List (List ℕ))
-  parts : ws ≡ line ∷ others
-  first : same_line line l ≡ true
-  second : same_lines others ls ≡ true
+pub record IsFirst (ws : List (List (List ℕ))) (l : Line) (ls : List Line) : Type 0 where
+  pub line : List (List ℕ)
+  pub others : List (List (List ℕ))
+  pub parts : ws ≡ line ∷ others
+  pub first : same_line line l ≡ true
+  pub second : same_lines others ls ≡ true
 
-first-line : (ws : List (List (List ℕ))) (l : Line) (ls : List Line) → same_lines ws (l ∷ ls) ≡ true → IsFirst ws l ls
+pub first-line : (ws : List (List (List ℕ))) (l : Line) (ls : List Line) → same_lines ws (l ∷ ls) ≡ true → IsFirst ws l ls
 first-line [] l ls h = absurd (true≢false (sym h))
 first-line (w ∷ ws) l ls h = let p = both-true (same_line w l) (same_lines ws ls) h in record { line = w; others = ws; parts = refl; first = p.0; second = p.1 }
 

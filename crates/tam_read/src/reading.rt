@@ -1,11 +1,12 @@
 //! Reads a graph from its text.
-ghost use Rattle.std.specs.Prelude.{◌≡◌, ◌≤◌, ◌∷◌, ◌++◌, [], ℕ, List, map, length, IfOk, IfErr};
-ghost use Rattle.tam_graph.specs.Graphs.{graph_of};
+ghost use Rattle.std.specs.Prelude.{◌≡◌, ◌≤◌, ◌∷◌, ◌++◌, [], ℕ, List, map, length, IfOk, IfErr, MatchResult};
+ghost use Rattle.tam_graph.specs.Graphs.{graph_of, Graph as GraphRecord};
 ghost use Rattle.tam_graph.specs.Reading.{IsCode, IsOfText, Reads};
 ghost use Rattle.tam_read.specs.Faults.{faults};
 ghost use Rattle.tam_read.specs.PartView.{code_of_part};
 ghost use Rattle.tam_read.specs.Placed.{lines_in};
 ghost use Rattle.tam_read.specs.Refusals.{IsFirst};
+ghost use Rattle.tam_read.specs.declared.refused.Refused.TheVariants.{NoMemory};
 
 use crate::part::Part;
 use crate::placed::{Lines, lines_of};
@@ -55,8 +56,10 @@ pub fn read(alloc: Global, text: &[u8]) -> Result<Found, Refused>
     requires { length text.now ≤ 1048576 }
     ensures reads { IfOk result (λ found. Reads text.now found.graph) }
     ensures lines { IfOk result (λ found. found.lines ≡ lines_in text.now) }
-    ensures faultless { IfOk result (λ found. faults text.now ≡ []) }
     ensures refused { IfErr result (IsFirst (faults text.now)) }
+
+    // A text that reads as a graph reads as that graph alone, and only want of memory refuses it.
+    ensures complete { (g : GraphRecord) → Reads text.now g → MatchResult result (λ found. found.graph ≡ g) (λ e. e ≡ NoMemory) }
 {
     match read_parts(alloc, text) {
         Ok(parts) => {

@@ -61,8 +61,7 @@ bounded-back c q most (Branch l y t n e r) b x k h v s o low deep far w shallow 
     let else_in : StandsIn c j (suc h) = one-deeper c b j x h w o.2 in_b in
     let at_k = parts k (omega arith) (omega arith) in
     let at_j = parts j (omega arith) (omega arith) in
-    let nested : suc h ≤ 16 = (let z = then_in most (omega arith) in let i = shallow k (omega arith) in omega arith) in
-    (
+    let nested : suc h ≤ 16 = (let z = then_in most (omega arith) in let i = shallow k (omega arith) in omega arith) in (
       omega (arith, sum),
       nested,
       bounded-back c q most y k (suc x) (suc k) (suc h) 0 s.1 o.1 (omega arith) (omega arith) (omega arith) then_in shallow (omega (arith, at_k)) (λ d lo hi. let i = parts d (omega arith) (omega arith) in omega arith),

@@ -38,14 +38,13 @@ lines-new before (s ∷ ss) none d apart few =
     let next : until_code (s ∷ before) ≡ s ∷ until_code before = rw (until_code, none.0) refl in
     let sum : vertices (until_code (s ∷ before)) ≡ vertices_of s.verb + vertices (until_code before) = ap vertices next in
     let names : flat_map names_made (until_code (s ∷ before)) ≡ names_made s ++ flat_map names_made (until_code before) = ap (flat_map names_made) next ∙ flat_map-cons names_made s (until_code before) in
-    let all : flat_map names_made (s ∷ ss) ≡ names_made s ++ flat_map names_made ss = flat_map-cons names_made s ss in
-    (
+    let all : flat_map names_made (s ∷ ss) ≡ names_made s ++ flat_map names_made ss = flat_map-cons names_made s ss in (
       λ n p q. apart n (subst (λ ns. In n ns) (sym all) (left-in n (names_made s) (flat_map names_made ss) p)) q,
       omega (arith, few),
       lines-new (s ∷ before) ss none.1 d.1
-      (λ n p q. ⊎_elim (λ h. d.0 n h p) (λ h. apart n (subst (λ ns. In n ns) (sym all) (right-in n (names_made s) (flat_map names_made ss) p)) h)
-      (in-append n (names_made s) (flat_map names_made (until_code before)) (subst (λ ns. In n ns) names q)))
-      (omega (arith, few, sum)),
+          (λ n p q. ⊎_elim (λ h. d.0 n h p) (λ h. apart n (subst (λ ns. In n ns) (sym all) (right-in n (names_made s) (flat_map names_made ss) p)) h)
+          (in-append n (names_made s) (flat_map names_made (until_code before)) (subst (λ ns. In n ns) names q)))
+          (omega (arith, few, sum)),
     )
 
 -- lines behind others are new behind them
@@ -70,8 +69,7 @@ tree-clean Done f before o os rest e bound new right clean = clean
 tree-clean (Plain s r) f before o os rest e bound new right clean =
     let here = right s (inl refl) in
     let v = plain-code s.verb f.0 in
-    let next : open_after (s ∷ before) ≡ owned s o ∷ os = ap (open_behind s s.verb) e ∙ plain-open s s.verb o os f.0 in
-    (
+    let next : open_after (s ∷ before) ≡ owned s o ∷ os = ap (open_behind s s.verb) e ∙ plain-open s s.verb o os f.0 in (
       line-clean before o os s e here.0 here.1 v.0 (plain-place s.verb o.opening (map (λ p. p.opening) os) f.0) new.0 new.1 (inr bound.0) (inl v.1),
       tree-clean r f.1 (s ∷ before) (owned s o) os rest next bound.1 new.2 (λ z i. right z (inr i)) clean,
     )

@@ -104,8 +104,7 @@ differ-parts : (xs ys : List (List ℕ)) → all_differ same_bytes (xs ++ ys) �
 differ-parts [] ys d = (λ n p q. p, d)
 differ-parts (x ∷ xs) ys d =
     let h = differ-behind x (xs ++ ys) d in
-    let i = differ-parts xs ys h.1 in
-    (
+    let i = differ-parts xs ys h.1 in (
       λ n p q. ⊎_elim (λ same. true≢false (sym (in-any (same_bytes x) (xs ++ ys) n (right-in n xs ys q) (ap (same_bytes x) (sym same) ∙ same_self x)) ∙ h.0)) (λ k. i.0 n k q) p,
       i.1,
     )
@@ -131,14 +130,13 @@ new-codes g before (c ∷ cs) (x ∷ ds) s d apart few =
     let p = differ-behind c.name (map (λ c. c.name) cs) d in
     let begun : code_begun x.head ≡ c.name ∷ [] = ap code_begun (s.0).head in
     let next : flat_map code_begun (put_before before (lines_of_code x)) ≡ c.name ∷ flat_map code_begun before =
-    begun-behind (x.head ∷ before) (body_lines x) (body-no-code x) ∙ flat_map-cons code_begun x.head before ∙ ap (λ ns. ns ++ flat_map code_begun before) begun in
-    (
+    begun-behind (x.head ∷ before) (body_lines x) (body-no-code x) ∙ flat_map-cons code_begun x.head before ∙ ap (λ ns. ns ++ flat_map code_begun before) begun in (
       λ n h q. ⊎_elim (λ same. apart n (inl same) q) (λ k. k) (subst (λ ns. In n ns) begun h),
       omega (arith, few),
       new-codes g (put_before before (lines_of_code x)) cs ds s.1 p.1
-      (λ n h q. ⊎_elim (λ same. true≢false (sym (in-any (same_bytes c.name) (map (λ c. c.name) cs) n h (ap (same_bytes c.name) (sym same) ∙ same_self c.name)) ∙ p.0)) (λ k. apart n (inr h) k)
-      (subst (λ ns. In n ns) next q))
-      (omega (arith, few, ap length next)),
+          (λ n h q. ⊎_elim (λ same. true≢false (sym (in-any (same_bytes c.name) (map (λ c. c.name) cs) n h (ap (same_bytes c.name) (sym same) ∙ same_self c.name)) ∙ p.0)) (λ k. apart n (inr h) k)
+          (subst (λ ns. In n ns) next q))
+          (omega (arith, few, ap length next)),
     )
 
 -- a code's lines stand beside a code

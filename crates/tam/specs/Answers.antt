@@ -1,97 +1,105 @@
--- What the program writes, and with which status.
+-- What the program writes, and with which status, by what the words ask for and by what is left of the files.
 -- The rule in words: docs/FORMATS.md, "Command line".
-use Rattle.std.specs.Prelude.{ℕ, ◌≡◌, ◌≢◌, ◌<◌, ◌≤◌, List, [], ◌∷◌, ◌++◌, flat_map, length, codes, Option, Some, None}
+use Rattle.std.specs.Prelude.{ℕ, ◌≡◌, ◌≢◌, Bool, true, false, List, [], ◌∷◌, ◌++◌, flat_map, length, Option, Some, None}
+use Rattle.tam_graph.specs.declared.place.Place.{Place}
+use Rattle.tam_graph.specs.declared.check_cause.CheckCause.{CheckCause}
 use Rattle.tam_graph.specs.Graphs.{Graph, code_of, params_of}
 use Rattle.tam_graph.specs.Accepted.{IsAccepted}
 use Rattle.tam_graph.specs.Texts.{canonical}
-use Rattle.tam_graph.specs.Reading.{IsOfText}
-use Rattle.tam_graph.specs.Built.{IsBuilt}
-use Rattle.tam_msgs.specs.declared.limits.Limits.{Limits}
-use Rattle.tam_msgs.specs.Runs.{Report, result_line, text_of, line}
+use Rattle.tam_graph.specs.Reading.{Reads}
+use Rattle.tam_read.specs.declared.cause.ReadCause.{ReadCause}
+use Rattle.tam_read.specs.Faults.{first_fault}
+use Rattle.tam_read.specs.Placed.{line_at, lines_in}
+use Rattle.tam_check.specs.FirstFault.{first_fault as first_refused}
+use Rattle.tam_msgs.specs.declared.item.Item.{Item}
+use Rattle.tam_msgs.specs.Runs.{End, Quiet, Double_write, Out_of_range, Frames_full, Cells_full, Budget_spent, Wild, Trap, Report, result_line, text_of}
+use Rattle.tam_msgs.specs.Runs.{missing_of}
 use Rattle.tam_eval.specs.GraphRuns.{graph_told}
-use Rattle.tam.specs.declared.usage_cause.UsageCause.{UsageCause}
-use Rattle.tam.specs.declared.usage_cause.UsageCause.TheVariants.{Words, Mode, Args, ArgsCount}
-use Rattle.tam.specs.Words.{Asked, Job, Usage, name_of}
+use Rattle.tam_words.specs.declared.mode.Mode.{Mode}
+use Rattle.tam_words.specs.declared.mode.Mode.TheVariants as mode
+use Rattle.tam_words.specs.declared.usage_cause.UsageCause.TheVariants.{ArgsCount}
+use Rattle.tam_words.specs.Jobs.{Asked, Job, JobParts}
+use Rattle.tam_list.specs.Listings.{check_text, sets_text, parts_text}
+use Rattle.tam_input.specs.declared.refusal.Refusal.{Refusal}
+use Rattle.tam_input.specs.Refusing.{Files, IsLeft, IsOrder, IsUntold, Refuses, input_of, most_bytes, usage_line, no_memory_line, refusal_status, refusal_line}
+use Rattle.tam_input.specs.Inputs.{Request, request_of}
+use Rattle.tam.specs.AnswerLines.{refused_line, read_cause_name, check_cause_name}
 
--- the most bytes of a graph's text
-abbrev pub most_bytes : ℕ
-most_bytes = 1048576
+-- the mode reads a graph's text
+abbrev pub reads_graph : Mode → Bool
+reads_graph mode.Assemble = false
+reads_graph m = true
 
--- what bounds a run where nothing is said
-abbrev pub usual_limits : Limits
-usual_limits = record { budget = 1000000; frames = 4096; cells = 1048576 }
+-- the bytes are a text of an accepted graph
+pub record Spells (bytes : List ℕ) (g : Graph) : Type 0 where
+  pub reads : Reads bytes g
+  pub accepted : IsAccepted g
 
--- ---- lines
+-- the text that a mode writes of an accepted graph, where it makes no run
+abbrev pub listing : Mode → Graph → Option (List ℕ)
+listing mode.Check g = Some (check_text g)
+listing mode.EmitDg g = Some (canonical g)
+listing mode.Sets g = Some (sets_text g)
+listing mode.Parts g = Some (parts_text g)
+listing m g = None
 
--- a cause by its name
-abbrev pub cause_name : UsageCause → List ℕ
-cause_name Words = codes "Words"
-cause_name Mode = codes "Mode"
-cause_name Args = codes "Args"
-cause_name ArgsCount = codes "ArgsCount"
+-- ---- runs
 
--- the line of a usage fault
-abbrev pub usage_line : UsageCause → List ℕ
-usage_line cause = line (codes "usage " ++ cause_name cause)
+-- the report of the run of a graph that is asked for
+abbrev pub run_of : Request → Graph → Report
+run_of ask g = graph_told g ask.args ask.order ask.limits
 
--- the line of a read that failed
-abbrev pub read_fault_line : List ℕ
-read_fault_line = line (codes "read fault")
+-- the status of an end; the list is of the results that are missing
+abbrev pub status_by : End → List ℕ → ℕ
+status_by Quiet [] = 0
+status_by Quiet (k ∷ ks) = 4
+status_by (Double_write s t) ks = 5
+status_by (Out_of_range s i l) ks = 6
+status_by (Frames_full n) ks = 7
+status_by (Cells_full u l) ks = 8
+status_by (Budget_spent n) ks = 9
+status_by (Wild what n) ks = 12
+status_by (Trap pc cause) ks = 12
 
--- the line of a text of too many bytes
-abbrev pub too_long_line : List ℕ
-too_long_line = line (codes "refused too long")
+-- the status of a run
+abbrev pub status_of : Report → ℕ
+status_of r = status_by r.how (missing_of r.how r.results r.printed)
 
--- the line of a text that isn't that of a graph which is built
-abbrev pub not_built_line : List ℕ
-not_built_line = line (codes "refused line 1 NotBuilt")
-
--- the line of want of memory
-abbrev pub no_memory_line : List ℕ
-no_memory_line = line (codes "no memory")
+-- a run of the graph of the bytes is asked for, and each param of `main` has an argument
+pub record AsksGraph (ask : Request) (bytes : List ℕ) (g : Graph) : Type 0 where
+  pub mode : ask.mode ≡ mode.Graph
+  pub spelled : Spells bytes g
+  pub one_each : length ask.args ≡ params_of (code_of g g.main)
 
 -- ---- answers
 
--- the bytes are the text of a graph that is built
-pub record Spells (bytes : List ℕ) (g : Graph) : Type 0 where
-  pub text : canonical g ≡ bytes
-  pub of_text : IsOfText g
-  pub accepted : IsAccepted g
-  pub built : IsBuilt g
+-- by what is asked of these bytes, the status and the text that are answered
+pub data AnswerTo (ask : Request) (bytes : List ℕ) : ℕ → List ℕ → Type 0 where
+  -- the bytes read as no graph
+  not_graph : {n : ℕ} {cause : ReadCause} → reads_graph ask.mode ≡ true → first_fault bytes ≡ (n, cause) ∷ []
+      → AnswerTo ask bytes 1 (refused_line n (read_cause_name cause))
+  -- they read as one that isn't accepted
+  not_accepted : {g : Graph} {place : Place} {cause : CheckCause} → reads_graph ask.mode ≡ true → Reads bytes g
+      → first_refused g ≡ Some (place, cause) → AnswerTo ask bytes 1 (refused_line (line_at (lines_in bytes) place) (check_cause_name cause))
+  -- as an accepted one, which is listed
+  listed : {g : Graph} {text : List ℕ} → Spells bytes g → listing ask.mode g ≡ Some text → AnswerTo ask bytes 0 text
+  -- or has another number of params than there are arguments
+  wrong_count : {g : Graph} → ask.mode ≡ mode.Graph → Spells bytes g → length ask.args ≢ params_of (code_of g g.main)
+      → AnswerTo ask bytes 2 (usage_line ArgsCount)
+  -- or is run
+  ran : {g : Graph} → AsksGraph ask bytes g → AnswerTo ask bytes (status_of (run_of ask g)) (text_of (run_of ask g))
+  -- until memory is wanted, behind the lines of its first results
+  ran_out : {g : Graph} (front rest : List (ℕ × ℕ)) → AsksGraph ask bytes g → (run_of ask g).printed ≡ front ++ rest
+      → AnswerTo ask bytes 11 (flat_map result_line front ++ no_memory_line)
+  -- or memory is wanted before a line was written
+  wanted : AnswerTo ask bytes 11 no_memory_line
 
--- the run of a graph on arguments is asked for, and the bytes that are left of the file are the graph's text
-pub record AsksRun (ask : Asked) (left : Option (List ℕ)) (g : Graph) (args : List ℕ) : Type 0 where
-  pub job : ask ≡ Job (name_of ask) args
-  pub bytes : List ℕ
-  pub told : left ≡ Some bytes
-  pub few : length bytes ≤ most_bytes
-  pub spelled : Spells bytes g
-  pub one_each : length args ≡ params_of (code_of g g.main)
-
--- the report of the run that is asked for
-abbrev pub run_of : Graph → List ℕ → Report
-run_of g args = graph_told g args [] usual_limits
-
--- by what is asked and by what is left of the file, the status and the text that are answered
-pub data Answer (ask : Asked) (left : Option (List ℕ)) : ℕ → List ℕ → Type 0 where
-  -- a fault of the words
-  usage : {cause : UsageCause} → ask ≡ Usage cause → Answer ask left 2 (usage_line cause)
-  -- a read failed
-  not_read : {args : List ℕ} → ask ≡ Job (name_of ask) args → Answer ask left 3 read_fault_line
-  -- the file holds too many bytes
-  too_long : {args bytes : List ℕ} → ask ≡ Job (name_of ask) args → left ≡ Some bytes → most_bytes < length bytes → Answer ask left 1 too_long_line
-  -- it holds the text of no graph that is built
-  not_built : {args bytes : List ℕ} → ask ≡ Job (name_of ask) args → left ≡ Some bytes → length bytes ≤ most_bytes
-      → ((g : Graph) → ¬ Spells bytes g) → Answer ask left 1 not_built_line
-  -- it holds one, whose `main` has another number of params
-  wrong_count : {g : Graph} {args bytes : List ℕ} → ask ≡ Job (name_of ask) args → left ≡ Some bytes → length bytes ≤ most_bytes
-      → Spells bytes g → length args ≢ params_of (code_of g g.main) → Answer ask left 2 (usage_line ArgsCount)
-  -- it holds one, which is run
-  ran : {g : Graph} {args : List ℕ} → AsksRun ask left g args → Answer ask left 0 (text_of (run_of g args))
-  -- memory was wanted before a run
-  no_memory : Answer ask left 11 no_memory_line
-  -- or in a run, behind the lines of its first results
-  no_memory_in_run : {g : Graph} {args : List ℕ} (front rest : List (ℕ × ℕ)) → AsksRun ask left g args → (run_of g args).printed ≡ front ++ rest
-      → Answer ask left 11 (flat_map result_line front ++ no_memory_line)
+-- by what the words ask for and by what is left of the files, the status and the text that are answered
+pub data Answer (ask : Asked) (left : Files) : ℕ → List ℕ → Type 0 where
+  -- a refusal before the job's file is looked into
+  refused : {refusal : Refusal} → Refuses ask left refusal → Answer ask left (refusal_status refusal) (refusal_line refusal)
+  -- the job's file holds these bytes, which are answered
+  answered : {job : JobParts} {order : List Item} {bytes text : List ℕ} {status : ℕ} → ask ≡ Job job → IsOrder job left order
+      → IsLeft (input_of job left) (most_bytes job.mode) bytes → AnswerTo (request_of job order) bytes status text → Answer ask left status text
   -- of a file whose content isn't told nothing more is said
-  untold : {args text : List ℕ} {status : ℕ} → ask ≡ Job (name_of ask) args → left ≡ None → Answer ask left status text
+  unseen : {job : JobParts} {text : List ℕ} {status : ℕ} → ask ≡ Job job → IsUntold job left → Answer ask left status text

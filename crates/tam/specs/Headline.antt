@@ -1,80 +1,77 @@
--- What the top call makes sure of, by what is asked and by what is left of the file: its answer, and that runs are right.
-use Rattle.std.specs.Prelude.{ℕ, ◌≡◌, ◌≢◌, ◌≤◌, ◌⊎◌, List, [], ◌++◌, flat_map, map, length, Option, None, Some, String, ⊤}
+-- What the top call makes sure of, by what is asked and by what is left of the files: its answer, and that runs are right.
+use Rattle.std.specs.Prelude.{ℕ, ◌≡◌, ◌≢◌, ◌≤◌, ◌⊎◌, List, ◌++◌, flat_map, map, Option, String}
 use Rattle.std.specs.declared.alloc.Global.{Global}
 use Rattle.std.specs.String.{string_bytes}
 use Rattle.std.specs.Io.KnownBytes.{Appends}
 use Rattle.tam_edge.specs.Faults.{Rose, CountsFault}
 use Rattle.tam_edge.specs.Whole.{AppendsFront}
 use Rattle.tam_graph.specs.Graphs.{Graph}
-use Rattle.tam_msgs.specs.Runs.{Quiet, result_line, text_of, missing_of}
+use Rattle.tam_msgs.specs.declared.item.Item.{Item}
+use Rattle.tam_msgs.specs.Runs.{Quiet, Report, result_line, text_of}
 use Rattle.tam_eval.specs.Headline.{IsRight}
-use Rattle.tam.specs.Words.{Asked, Job, Names, asked, name_of}
-use Rattle.tam.specs.Answers.{Answer, AsksRun, run_of, usual_limits, most_bytes, read_fault_line, no_memory_line}
+use Rattle.tam_run.specs.RightRuns.{HasRoom}
+use Rattle.tam_words.specs.Jobs.{Asked, Job, JobParts, asked}
+use Rattle.tam_input.specs.Refusing.{Files, IsLeft, IsOrder, input_of, most_bytes, read_fault_line, no_memory_line}
+use Rattle.tam_input.specs.Inputs.{Request, request_of, IsReadOut, Names}
+use Rattle.tam.specs.Answers.{AsksGraph, run_of, status_of}
 
 -- what the words ask for
 abbrev pub ask_of : List (String Global) → Asked
 ask_of words = asked (map string_bytes words)
 
--- the sink took the whole text of the answer
-abbrev pub Answered : Asked → Option (List ℕ) → ℕ → Option (List ℕ) → Option (List ℕ) → Type 0
-Answered ask left status old new = (text : List ℕ) × Answer ask left status text × Appends old new text
+-- ---- an answer was written
 
--- the sink took a front of the text of some answer
-abbrev pub BrokeOff : Asked → Option (List ℕ) → Option (List ℕ) → Option (List ℕ) → Type 0
-BrokeOff ask left old new = (status : ℕ) × (text : List ℕ) × Answer ask left status text × AppendsFront old new text
+-- a text was said under a status; where a write failed, the status is 10, its count says so, and a front of the text was taken
+pub record IsSaid (meant : ℕ) (text : List ℕ) (status : ℕ) (old new : Option (List ℕ)) (faults faults_new : ℕ) : Type 0 where
+  pub said : status ≢ 10 → (status ≡ meant) × Appends old new text
+  pub none : status ≢ 10 → faults_new ≡ faults
+  pub broken : status ≡ 10 → AppendsFront old new text
+  pub fault : status ≡ 10 → CountsFault faults faults_new
 
--- of told bytes none is left
-abbrev pub ReadsToEnd : Option (List ℕ) → Option (List ℕ) → Type 0
-ReadsToEnd None new = ⊤
-ReadsToEnd (Some bytes) new = new ≡ Some []
+-- one of the texts was written whole under its status, or a front of one before a write fault, whose count says so
+pub record IsDone (Says : ℕ → List ℕ → Type 0) (status : ℕ) (old new : Option (List ℕ)) (faults faults_new : ℕ) : Type 0 where
+  pub said : status ≢ 10 → (text : List ℕ) × Says status text × Appends old new text
+  pub none : status ≢ 10 → faults_new ≡ faults
+  pub broken : status ≡ 10 → (meant : ℕ) × (text : List ℕ) × Says meant text × AppendsFront old new text
+  pub fault : status ≡ 10 → CountsFault faults faults_new
 
--- what a call leaves of the files: nothing of a name that isn't asked for changes, and where its count changed, a read fault is answered
-pub record KeepsFiles (ask : Asked) (status : ℕ) (left left_new : List ℕ → Option (List ℕ)) (faults faults_new : List ℕ → ℕ) : Type 0 where
-  pub other_left : (other : List ℕ) → ¬ Names ask other → left_new other ≡ left other
-  pub other_faults : (other : List ℕ) → ¬ Names ask other → faults_new other ≡ faults other
-  pub read_fault : status ≡ 3 → Rose (faults (name_of ask)) (faults_new (name_of ask))
-  pub fault_told : faults_new (name_of ask) ≢ faults (name_of ask) → (status ≡ 3) ⊎ (status ≡ 10)
-  pub read_whole : status ≡ 0 → ReadsToEnd (left (name_of ask)) (left_new (name_of ask))
+-- ---- files
 
--- a run on the arguments is asked for, and these bytes, not too many, are left of the file
-pub record IsFile (ask : Asked) (left : Option (List ℕ)) (args bytes : List ℕ) : Type 0 where
-  pub job : ask ≡ Job (name_of ask) args
-  pub told : left ≡ Some bytes
-  pub few : length bytes ≤ most_bytes
+-- Nothing changes of a file that the words don't name. A read fault is answered only where the count of one that they name rose, or stands at its
+-- last value, and where a count changed it is answered, or a front of its line before a write fault. What is run or listed was read to its end.
+pub record KeepsFiles (ask : Asked) (status : ℕ) (left left_new : Files) (faults faults_new : List ℕ → ℕ) (old new : Option (List ℕ)) : Type 0 where
+  pub other_left : (file : List ℕ) → ¬ Names ask file → left_new file ≡ left file
+  pub other_faults : (file : List ℕ) → ¬ Names ask file → faults_new file ≡ faults file
+  pub read_fault : status ≡ 3 → (file : List ℕ) × Names ask file × Rose (faults file) (faults_new file)
+  pub fault_told : (file : List ℕ) → faults_new file ≢ faults file → (status ≡ 3) ⊎ ((status ≡ 10) × AppendsFront old new read_fault_line)
+  pub read_out : (file : List ℕ) → Names ask file → (status ≡ 0) ⊎ ((4 ≤ status) × (status ≤ 9)) → IsReadOut (left file) (left_new file)
 
--- the statuses that come
-pub data IsStatus : ℕ → Type 0 where
-  success : IsStatus 0
-  refused : IsStatus 1
-  usage : IsStatus 2
-  not_read : IsStatus 3
-  not_written : IsStatus 10
-  no_memory : IsStatus 11
+-- ---- runs
 
--- Of a run that is asked for: each line is a result of the firing rules, no place has two, and the lines are exactly the results; the run is
--- quiet, and no result is missing. With status 0 the sink took exactly its text, with status 11 the lines of first results and `no memory`.
--- Else a read or a write failed.
-pub record IsRightRun (g : Graph) (args : List ℕ) (status : ℕ) (old new : Option (List ℕ)) : Type 0 where
-  pub right : IsRight g args usual_limits (run_of g args)
-  pub quiet : (run_of g args).how ≡ Quiet
-  pub none_missing : missing_of (run_of g args).how (run_of g args).results (run_of g args).printed ≡ []
-  pub whole : status ≡ 0 → Appends old new (text_of (run_of g args))
-  pub first_lines : status ≡ 11
-      → (front rest : List (ℕ × ℕ)) × ((run_of g args).printed ≡ front ++ rest) × Appends old new (flat_map result_line front ++ no_memory_line)
+-- a run of the graph is asked for: on these arguments, under this order list and within these limits
+pub record AsksRun (words : Asked) (left : Files) (g : Graph) (ask : Request) : Type 0 where
+  pub job : JobParts
+  pub order : List Item
+  pub asked : words ≡ Job job
+  pub same : ask ≡ request_of job order
+  pub ordered : IsOrder job left order
+  pub bytes : List ℕ
+  pub left : IsLeft (input_of job left) (most_bytes job.mode) bytes
+  pub graph : AsksGraph ask bytes g
+
+-- the lines of first results of a run, and then that memory was wanted, were taken in some way
+abbrev pub RanOut : (List ℕ → Type 0) → Report → Type 0
+RanOut Taken r = (front rest : List (ℕ × ℕ)) × (r.printed ≡ front ++ rest) × Taken (flat_map result_line front ++ no_memory_line)
+
+-- Of a run that is asked for: each line is a result of the firing rules, no place has two lines, a quiet run has exactly the results, a result is
+-- missing exactly where no number of unfoldings gives it, and every other end has its cause in the rules. Where the limits leave room for what the rules
+-- give, the run is quiet. Under the status of its end the sink took exactly its text. Else memory was wanted, behind the lines of its first
+-- results, or a read failed, or a write, and then the sink took a front of one of these.
+pub record IsRightRun (g : Graph) (ask : Request) (status : ℕ) (old new : Option (List ℕ)) : Type 0 where
+  pub right : IsRight g ask.args ask.limits (run_of ask g)
+  pub complete : HasRoom g ask.args ask.limits → (run_of ask g).how ≡ Quiet
+  pub whole : status ≡ status_of (run_of ask g) → Appends old new (text_of (run_of ask g))
+  pub first_lines : status ≡ 11 → RanOut (Appends old new) (run_of ask g)
   pub fault : status ≡ 3 → Appends old new read_fault_line
-  pub front : status ≡ 10 → AppendsFront old new (text_of (run_of g args))
-      ⊎ (((front rest : List (ℕ × ℕ)) × ((run_of g args).printed ≡ front ++ rest) × AppendsFront old new (flat_map result_line front ++ no_memory_line))
-      ⊎ AppendsFront old new read_fault_line)
-  pub no_other : (status ≡ 0) ⊎ ((status ≡ 3) ⊎ ((status ≡ 10) ⊎ (status ≡ 11)))
-
--- an answer was written, whole, or broken off by a write fault
-pub record IsDone (ask : Asked) (left : Option (List ℕ)) (status : ℕ) (old new : Option (List ℕ)) (faults faults_new : ℕ) : Type 0 where
-  pub answered : status ≢ 10 → Answered ask left status old new
-  pub broken : status ≡ 10 → BrokeOff ask left old new × CountsFault faults faults_new
-  pub statuses : IsStatus status
-
--- all of a call but its runs: by what is asked, the answer, and what was left of files and sink
-pub record Does (ask : Asked) (status : ℕ) (left left_new : List ℕ → Option (List ℕ)) (faults faults_new : List ℕ → ℕ)
-    (old new : Option (List ℕ)) (written written_new : ℕ) : Type 0 where
-  pub done : IsDone ask (left (name_of ask)) status old new written written_new
-  pub files : KeepsFiles ask status left left_new faults faults_new
+  pub front : status ≡ 10 → AppendsFront old new (text_of (run_of ask g)) ⊎ (RanOut (AppendsFront old new) (run_of ask g) ⊎ AppendsFront old new read_fault_line)
+  pub no_other : (status ≡ status_of (run_of ask g)) ⊎ ((status ≡ 3) ⊎ ((status ≡ 10) ⊎ (status ≡ 11)))

@@ -1,3 +1,3 @@
-pub mod Words
+pub mod AnswerLines
 pub mod Answers
 pub mod Headline

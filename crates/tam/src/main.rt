@@ -1,17 +1,19 @@
 //! Runs a dataflow graph: the program around the top call.
 //!
-//! Over the edge, the reader of what is built, and the runs of accepted graphs.
+//! Over all crates of the graph level, the readers of words and files, and the assembler.
 //! Read `specs/Headline.antt` first: what the top call makes sure of. Then `src/top.rt`.
 #![tactic(auto)]
 
-mod job;
+mod answer;
+mod assembly;
+mod graph_run;
+mod graph_text;
+mod refusal;
 mod say;
 mod status;
 #[cfg(test)]
 mod tests;
 mod top;
-mod usage_cause;
-mod words;
 
 use std::env;
 use std::process::ExitCode;

@@ -1,0 +1,48 @@
+-- The lines of texts that are refused, and the names of their faults.
+-- The rule in words: docs/FORMATS.md, "Command line".
+use Rattle.std.specs.Prelude.{ℕ, List, ◌++◌, decimal, codes}
+use Rattle.tam_msgs.specs.Runs.{line}
+use Rattle.tam_read.specs.declared.cause.Limit.{Limit}
+use Rattle.tam_read.specs.declared.cause.Limit.TheVariants.{Codes, CodeVertices, BlockVertices, Nesting}
+use Rattle.tam_read.specs.declared.cause.ReadCause.{ReadCause}
+use Rattle.tam_read.specs.declared.cause.ReadCause.TheVariants.{BadByte, BadHead, BadLine, BadName, BadNumber, BadNesting, TwiceNamed, TooMany, Ended}
+use Rattle.tam_read.specs.declared.cause.ReadCause.TheVariants.{UnknownName, UnknownCode}
+use Rattle.tam_graph.specs.declared.check_cause.CheckCause.{CheckCause}
+use Rattle.tam_graph.specs.declared.check_cause.CheckCause.TheVariants.{NoMain, WrongBlock, PlaceTwice, PlaceRange, PlaceMissing, DepthMismatch}
+use Rattle.tam_graph.specs.declared.check_cause.CheckCause.TheVariants.{MainType, Cycle}
+
+-- the line of a text that is refused at a line of its own, for a cause with this name
+abbrev pub refused_line : ℕ → List ℕ → List ℕ
+refused_line n cause = line (codes "refused line " ++ decimal n ++ codes " " ++ cause)
+
+-- a limit by its name
+abbrev pub limit_name : Limit → List ℕ
+limit_name Codes = codes "Codes"
+limit_name CodeVertices = codes "CodeVertices"
+limit_name BlockVertices = codes "BlockVertices"
+limit_name Nesting = codes "Nesting"
+
+-- a fault of a graph's text by its name
+abbrev pub read_cause_name : ReadCause → List ℕ
+read_cause_name BadByte = codes "BadByte"
+read_cause_name BadHead = codes "BadHead"
+read_cause_name BadLine = codes "BadLine"
+read_cause_name BadName = codes "BadName"
+read_cause_name BadNumber = codes "BadNumber"
+read_cause_name BadNesting = codes "BadNesting"
+read_cause_name TwiceNamed = codes "TwiceNamed"
+read_cause_name (TooMany limit) = codes "TooMany " ++ limit_name limit
+read_cause_name Ended = codes "Ended"
+read_cause_name UnknownName = codes "UnknownName"
+read_cause_name UnknownCode = codes "UnknownCode"
+
+-- a fault of a graph by its name
+abbrev pub check_cause_name : CheckCause → List ℕ
+check_cause_name NoMain = codes "NoMain"
+check_cause_name WrongBlock = codes "WrongBlock"
+check_cause_name PlaceTwice = codes "PlaceTwice"
+check_cause_name PlaceRange = codes "PlaceRange"
+check_cause_name PlaceMissing = codes "PlaceMissing"
+check_cause_name DepthMismatch = codes "DepthMismatch"
+check_cause_name MainType = codes "MainType"
+check_cause_name Cycle = codes "Cycle"

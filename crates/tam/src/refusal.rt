@@ -1,0 +1,68 @@
+// The lines of refusals.
+ghost use Rattle.std.specs.Prelude.{◌≡◌, ◌++◌, IfOk, OnOk, codes};
+ghost use Rattle.std.specs.Fmt.{decimal};
+ghost use Rattle.tam.specs.AnswerLines.{refused_line, read_cause_name, check_cause_name};
+
+use std::alloc::{AllocError, Global};
+use tam_graph::CheckCause;
+use tam_read::{Limit, ReadCause};
+use tam_word::print_number;
+
+// Adds a number in decimal.
+fn push_number(line: &mut Vec<u8>, number: u32) -> Result<(), AllocError>
+    ensures ok { OnOk result (line.new.items ≡ line.old.items ++ decimal number) }
+{
+    let mut digits = [0; 10];
+    let len = print_number(number, &mut digits);
+    line.extend_from_slice(&digits[..len])
+}
+
+/// The line of a text that is refused at one of its lines, for a cause with this name.
+pub fn refused_line(alloc: Global, line: u32, cause: &[u8]) -> Result<Vec<u8>, AllocError>
+    ensures value { IfOk result (λ text. text.items ≡ refused_line line cause.now) }
+{
+    let mut text = Vec::from_slice(alloc, b"refused line ")?;
+    push_number(&mut text, line)?;
+    text.extend_from_slice(b" ")?;
+    text.extend_from_slice(cause)?;
+    text.extend_from_slice(b"\n")?;
+    Ok(text)
+}
+
+/// A fault of a graph's text by its name.
+pub fn read_cause_name(cause: ReadCause) -> &'static [u8]
+    ensures value { result.now ≡ read_cause_name cause }
+{
+    match cause {
+        ReadCause::BadByte => b"BadByte",
+        ReadCause::BadHead => b"BadHead",
+        ReadCause::BadLine => b"BadLine",
+        ReadCause::BadName => b"BadName",
+        ReadCause::BadNumber => b"BadNumber",
+        ReadCause::BadNesting => b"BadNesting",
+        ReadCause::TwiceNamed => b"TwiceNamed",
+        ReadCause::TooMany(Limit::Codes) => b"TooMany Codes",
+        ReadCause::TooMany(Limit::CodeVertices) => b"TooMany CodeVertices",
+        ReadCause::TooMany(Limit::BlockVertices) => b"TooMany BlockVertices",
+        ReadCause::TooMany(Limit::Nesting) => b"TooMany Nesting",
+        ReadCause::Ended => b"Ended",
+        ReadCause::UnknownName => b"UnknownName",
+        ReadCause::UnknownCode => b"UnknownCode",
+    }
+}
+
+/// A fault of a graph by its name.
+pub fn check_cause_name(cause: CheckCause) -> &'static [u8]
+    ensures value { result.now ≡ check_cause_name cause }
+{
+    match cause {
+        CheckCause::NoMain => b"NoMain",
+        CheckCause::WrongBlock => b"WrongBlock",
+        CheckCause::PlaceTwice => b"PlaceTwice",
+        CheckCause::PlaceRange => b"PlaceRange",
+        CheckCause::PlaceMissing => b"PlaceMissing",
+        CheckCause::DepthMismatch => b"DepthMismatch",
+        CheckCause::MainType => b"MainType",
+        CheckCause::Cycle => b"Cycle",
+    }
+}

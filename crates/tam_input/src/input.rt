@@ -1,5 +1,5 @@
 // What is read before a job is answered: its words, its order file and its own file.
-ghost use Rattle.std.specs.Prelude.{◌≡◌, ◌≢◌, ◌≤◌, [], ℕ, List, length, map, string_bytes, IfOk, IfErr};
+ghost use Rattle.std.specs.Prelude.{◌≡◌, ◌≤◌, ◌⊎◌, [], length, map, string_bytes, Some, IfOk, IfErr};
 ghost use Rattle.tam_words.specs.Jobs.{asked, Job as Asks};
 ghost use Rattle.tam_input.specs.Refusing.{IsOrder, IsUntold, Refuses, most_bytes};
 ghost use Rattle.tam_input.specs.Inputs.{IsContent, IsInput, IsFault, IsReadOut, Names, NamesFile, KeepsNamed, ReadsOut};

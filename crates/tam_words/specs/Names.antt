@@ -1,0 +1,64 @@
+-- The names of modes, options and causes.
+-- The rule in words: docs/FORMATS.md, "Command line".
+use Rattle.std.specs.Prelude.{ℕ, Bool, true, false, List, [], ◌∷◌, Option, codes, find}
+use Rattle.std.specs.Str.{bytes_eq}
+use Rattle.tam_words.specs.declared.mode.Mode.{Mode}
+use Rattle.tam_words.specs.declared.mode.Mode.TheVariants.{Graph, Check, EmitDg, Sets, Parts, Assemble}
+use Rattle.tam_words.specs.declared.setting.Setting.{Setting}
+use Rattle.tam_words.specs.declared.setting.Setting.TheVariants.{Args as Set_args, Order as Set_order, OrderFile as Set_order_file}
+use Rattle.tam_words.specs.declared.setting.Setting.TheVariants.{Budget as Set_budget, Frames as Set_frames, Cells as Set_cells}
+use Rattle.tam_words.specs.declared.usage_cause.UsageCause.{UsageCause}
+use Rattle.tam_words.specs.declared.usage_cause.UsageCause.TheVariants.{Words, Mode as Unknown_mode, Extra, Args, Order, Budget, Frames, Cells, ArgsCount}
+
+-- ---- modes
+
+-- the word that names a mode
+abbrev pub mode_name : Mode → List ℕ
+mode_name Graph = codes "graph"
+mode_name Check = codes "check"
+mode_name EmitDg = codes "emit-dg"
+mode_name Sets = codes "sets"
+mode_name Parts = codes "parts"
+mode_name Assemble = codes "assemble"
+
+-- every mode
+abbrev pub modes : List Mode
+modes = Graph ∷ Check ∷ EmitDg ∷ Sets ∷ Parts ∷ Assemble ∷ []
+
+-- the mode that a word names
+abbrev pub mode_of : List ℕ → Option Mode
+mode_of word = find (λ mode. bytes_eq word (mode_name mode)) modes
+
+-- the mode makes a run
+abbrev pub runs : Mode → Bool
+runs Graph = true
+runs _ = false
+
+-- ---- options
+
+-- what the option of a setting begins with, up to its value
+abbrev pub option_text : Setting → List ℕ
+option_text Set_args = codes "--args="
+option_text Set_order = codes "--order="
+option_text Set_order_file = codes "--order-file="
+option_text Set_budget = codes "--budget="
+option_text Set_frames = codes "--frames="
+option_text Set_cells = codes "--cells="
+
+-- every setting
+abbrev pub settings : List Setting
+settings = Set_args ∷ Set_order ∷ Set_order_file ∷ Set_budget ∷ Set_frames ∷ Set_cells ∷ []
+
+-- ---- causes
+
+-- a cause by its name
+abbrev pub cause_name : UsageCause → List ℕ
+cause_name Words = codes "Words"
+cause_name Unknown_mode = codes "Mode"
+cause_name Extra = codes "Extra"
+cause_name Args = codes "Args"
+cause_name Order = codes "Order"
+cause_name Budget = codes "Budget"
+cause_name Frames = codes "Frames"
+cause_name Cells = codes "Cells"
+cause_name ArgsCount = codes "ArgsCount"

@@ -1,0 +1,16 @@
+-- What an error says of the words.
+use Rattle.std.specs.Prelude.{◌≡◌, Result, Err}
+use Rattle.tam_words.specs.declared.usage_cause.UsageCause.{UsageCause}
+use Rattle.tam_words.specs.declared.words_error.WordsError.{WordsError}
+use Rattle.tam_words.specs.declared.words_error.WordsError.TheVariants.{Usage as Fault, NoMemory}
+use Rattle.tam_words.specs.Jobs.{Asked, Usage}
+
+-- an error names the cause that the words have; want of memory says nothing of them
+abbrev pub Tells : Asked → WordsError → Type 0
+Tells ask (Fault cause) = ask ≡ Usage cause
+Tells ask NoMemory = Unit {0}
+
+-- an error names the cause of a value that isn't there; want of memory says nothing of it
+abbrev pub TellsOf : {X : Type 0} → Result X UsageCause → WordsError → Type 0
+TellsOf value (Fault cause) = value ≡ Err cause
+TellsOf value NoMemory = Unit {0}

@@ -1,0 +1,127 @@
+// The job that words ask for.
+ghost use Rattle.std.specs.Prelude.{◌≡◌, map, string_bytes, IfOk, IfErr, Ok, [], unwrap_or};
+ghost use Rattle.std.specs.Option.{option_map};
+ghost use Rattle.tam_msgs.specs.Messages.{AreLimits};
+ghost use Rattle.tam_words.specs.declared.setting.Setting.TheVariants.{OrderFile as Set_order_file};
+ghost use Rattle.tam_words.specs.declared.words_error.WordsError.TheVariants.{NoMemory};
+ghost use Rattle.tam_words.specs.Options.{given};
+ghost use Rattle.tam_words.specs.Jobs.{asked, job_of, limits_of, is_plain, is_extra, Job as Asks};
+ghost use Rattle.tam_words.specs.Tells.{Tells, TellsOf};
+
+use crate::job::Job;
+use crate::mode::{Mode, mode_of};
+use crate::options::{are_options, given, is_given};
+use crate::setting::Setting;
+use crate::usage_cause::UsageCause;
+use crate::values::{read_args, read_limit, read_order};
+use crate::words_error::WordsError;
+use std::alloc::Global;
+use tam_msgs::Limits;
+
+/// The job that the words behind the program's name ask for, or the first cause of those that forbid one. Want of memory may hide a cause.
+///
+/// docs/FORMATS.md, "Command line".
+pub fn read_words(alloc: Global, words: &[String]) -> Result<Job, WordsError>
+    ensures found { IfOk result (λ job. asked (map string_bytes words.now) ≡ Asks job) }
+    ensures refused { IfErr result (Tells (asked (map string_bytes words.now))) }
+{
+    let [mode, name, options @ ..] = words else {
+        return Err(WordsError::Usage(UsageCause::Words));
+    };
+    if !is_plain(mode.as_str()) || !is_plain(name.as_str()) || !are_options(options) {
+        return Err(WordsError::Usage(UsageCause::Words));
+    }
+    let Some(mode) = mode_of(mode.as_bytes()) else {
+        return Err(WordsError::Usage(UsageCause::Mode));
+    };
+    if is_extra(mode, options) {
+        return Err(WordsError::Usage(UsageCause::Extra));
+    }
+    read_job(alloc, mode, name.as_str(), options)
+}
+
+// Whether the word isn't empty and doesn't begin with `-`.
+fn is_plain(word: &str) -> bool
+    ensures value { result ≡ is_plain word.now }
+{
+    match word.as_bytes() {
+        [] => false,
+        [first, ..] => *first != b'-',
+    }
+}
+
+// Whether there are options that don't belong to the mode, or not together.
+fn is_extra(mode: Mode, options: &[String]) -> bool
+    ensures value { result ≡ is_extra mode (map string_bytes options.now) }
+{
+    if options.is_empty() {
+        return false;
+    }
+    !mode.runs() || (is_given(Setting::Order, options) && is_given(Setting::OrderFile, options))
+}
+
+// The job of a mode on a file with options, if each option's value is right.
+fn read_job(alloc: Global, mode: Mode, name: &str, options: &[String]) -> Result<Job, WordsError>
+    ensures found { IfOk result (λ job. job_of mode name.now (map string_bytes options.now) ≡ Asks job) }
+    ensures refused { IfErr result (Tells (job_of mode name.now (map string_bytes options.now))) }
+{
+    let args = read_args(alloc, text_of(Setting::Args, options).as_bytes())?;
+    let order = read_order(alloc, text_of(Setting::Order, options).as_bytes())?;
+    let limits = read_limits(options)?;
+    let order_file = order_file(alloc, options)?;
+    let name = owned(alloc, name)?;
+    Ok(Job::new(mode, name, args, order, order_file, limits))
+}
+
+// The limits of a run.
+fn read_limits(options: &[String]) -> Result<Limits, WordsError>
+    ensures found { IfOk result (λ limits. limits_of (map string_bytes options.now) ≡ Ok limits) }
+    ensures in_range { IfOk result AreLimits }
+    ensures refused { IfErr result (TellsOf (limits_of (map string_bytes options.now))) }
+{
+    let Some(budget) = read_limit(Setting::Budget, options, 1_000_000, 0, u32::MAX) else {
+        return Err(WordsError::Usage(UsageCause::Budget));
+    };
+    let Some(frames) = read_limit(Setting::Frames, options, 4096, 1, 16_384) else {
+        return Err(WordsError::Usage(UsageCause::Frames));
+    };
+    let Some(cells) = read_limit(Setting::Cells, options, 1_048_576, 0, 4_194_304) else {
+        return Err(WordsError::Usage(UsageCause::Cells));
+    };
+    Ok(Limits {
+        budget,
+        frames,
+        cells,
+    })
+}
+
+// The value of a setting, or an empty text.
+fn text_of(setting: Setting, options: &[String]) -> &str
+    ensures value { result.now ≡ unwrap_or (given setting (map string_bytes options.now)) [] }
+{
+    match given(setting, options) {
+        Some(text) => text,
+        None => "",
+    }
+}
+
+fn owned(alloc: Global, text: &str) -> Result<String, WordsError>
+    ensures same { IfOk result (λ copy. string_bytes copy ≡ text.now) }
+    ensures memory { IfErr result (λ e. e ≡ NoMemory) }
+{
+    match String::from_str(alloc, text) {
+        Ok(copy) => Ok(copy),
+        Err(_) => Err(WordsError::NoMemory),
+    }
+}
+
+// The name of the order file.
+fn order_file(alloc: Global, options: &[String]) -> Result<Option<String>, WordsError>
+    ensures same { IfOk result (λ file. option_map string_bytes file ≡ given Set_order_file (map string_bytes options.now)) }
+    ensures memory { IfErr result (λ e. e ≡ NoMemory) }
+{
+    match given(Setting::OrderFile, options) {
+        Some(file) => Ok(Some(owned(alloc, file)?)),
+        None => Ok(None),
+    }
+}

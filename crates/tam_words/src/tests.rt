@@ -1,0 +1,218 @@
+// Words and what they ask for, each worked by hand from the rule in the crate's first lines.
+use crate::mode::Mode;
+use crate::reading::read_words;
+use crate::usage_cause::UsageCause;
+use crate::words_error::WordsError;
+use std::process::Abort;
+use std::test::Fail;
+use tam_msgs::{Choice, Limits};
+
+fn texts<R: AllocGlobal>(rt: &R, words: &[&str]) -> Result<Vec<String>, Fail> {
+    let alloc = rt.alloc();
+    let mut texts = Vec::new(alloc);
+    for word in words {
+        texts.push(String::from_str(alloc, word)?)?;
+    }
+    Ok(texts)
+}
+
+fn check_cause<R: Abort + AllocGlobal>(
+    rt: &R,
+    words: &[&str],
+    cause: UsageCause,
+) -> Result<(), Fail> {
+    let texts = texts(rt, words)?;
+    let error = read_words(rt.alloc(), &texts).err();
+    assert_eq!(rt; error, Some(WordsError::Usage(cause)), "at {words:?}");
+    Ok(())
+}
+
+#[test]
+fn wrong_words_have_their_cause(rt: HostRuntime) -> Result<(), Fail> {
+    let cases: [(&[&str], UsageCause); 27] = [
+        (&[], UsageCause::Words),
+        (&["graph"], UsageCause::Words),
+        (&["", "f"], UsageCause::Words),
+        (&["graph", ""], UsageCause::Words),
+        (&["graph", "-f"], UsageCause::Words),
+        (&["-fly", "f"], UsageCause::Words),
+        (&["graph", "f", "g"], UsageCause::Words),
+        (&["graph", "f", "--args"], UsageCause::Words),
+        (&["graph", "f", "--arg=1"], UsageCause::Words),
+        (
+            &["graph", "f", "--cells=1", "--args=1", "--cells=1"],
+            UsageCause::Words,
+        ),
+        (&["fly", "f", "--orders="], UsageCause::Words),
+        (&["fly", "f", "--args=x"], UsageCause::Mode),
+        (&["grap", "f"], UsageCause::Mode),
+        (&["check", "f", "--args="], UsageCause::Extra),
+        (
+            &["graph", "f", "--order=x", "--args=x", "--order-file="],
+            UsageCause::Extra,
+        ),
+        (&["graph", "f", "--order=x", "--args=1,"], UsageCause::Args),
+        (&["graph", "f", "--args=4294967296"], UsageCause::Args),
+        (
+            &["graph", "f", "--budget=", "--order=r;"],
+            UsageCause::Order,
+        ),
+        (
+            &["graph", "f", "--frames=0", "--budget=4294967296"],
+            UsageCause::Budget,
+        ),
+        (&["graph", "f", "--budget=-0"], UsageCause::Budget),
+        (
+            &["graph", "f", "--cells=", "--frames=0"],
+            UsageCause::Frames,
+        ),
+        (&["graph", "f", "--frames=16385"], UsageCause::Frames),
+        (&["graph", "f", "--frames=01"], UsageCause::Frames),
+        (&["graph", "f", "--cells=4194305"], UsageCause::Cells),
+        (&["graph", "f", "--cells=0x1"], UsageCause::Cells),
+        (
+            &["graph", "f", "--order-file=", "--cells=+1"],
+            UsageCause::Cells,
+        ),
+        (&["sets", "f", "--help"], UsageCause::Words),
+    ];
+    for (words, cause) in cases {
+        check_cause(&rt, words, cause)?;
+    }
+    Ok(())
+}
+
+#[test]
+fn a_long_order_is_refused(rt: HostRuntime) -> Result<(), Fail> {
+    let mut order = String::from_str(rt.alloc(), "--order=r")?;
+    for _ in 0..524_288 {
+        order.push_str(",r")?;
+    }
+    let mut words = texts(&rt, &["graph", "f"])?;
+    words.push(order)?;
+    let error = read_words(rt.alloc(), &words).err();
+    assert_eq!(rt; error, Some(WordsError::Usage(UsageCause::Order)));
+    Ok(())
+}
+
+#[test]
+fn modes_have_their_words(rt: HostRuntime) -> Result<(), Fail> {
+    let cases = [
+        ("graph", Mode::Graph),
+        ("check", Mode::Check),
+        ("emit-dg", Mode::EmitDg),
+        ("sets", Mode::Sets),
+        ("parts", Mode::Parts),
+        ("assemble", Mode::Assemble),
+    ];
+    for (word, mode) in cases {
+        let texts = texts(&rt, &[word, "f"])?;
+        let job = read_words(rt.alloc(), &texts)?;
+        assert_eq!(rt; job.mode(), mode, "at {word}");
+        assert_eq!(rt; job.name().as_bytes(), b"f".as_slice());
+    }
+    Ok(())
+}
+
+#[test]
+fn a_job_has_its_defaults(rt: HostRuntime) -> Result<(), Fail> {
+    let texts = texts(&rt, &["graph", "a-b=c"])?;
+    let mut job = read_words(rt.alloc(), &texts)?;
+    assert_eq!(rt; job.name().as_bytes(), b"a-b=c".as_slice());
+    assert_eq!(rt; job.args().len(), 0);
+    assert!(rt; job.order_file().is_none());
+    let usual = Limits {
+        budget: 1_000_000,
+        frames: 4096,
+        cells: 1_048_576,
+    };
+    assert_eq!(rt; job.limits(), usual);
+    assert_eq!(rt; job.take_order().choose(true, 2), Choice::Run);
+    Ok(())
+}
+
+#[test]
+fn limits_reach_both_ends(rt: HostRuntime) -> Result<(), Fail> {
+    let cases: [(&[&str], Limits); 2] = [
+        (
+            &["graph", "f", "--budget=0", "--frames=1", "--cells=0"],
+            Limits {
+                budget: 0,
+                frames: 1,
+                cells: 0,
+            },
+        ),
+        (
+            &[
+                "graph",
+                "f",
+                "--cells=4194304",
+                "--frames=16384",
+                "--budget=4294967295",
+            ],
+            Limits {
+                budget: 4_294_967_295,
+                frames: 16_384,
+                cells: 4_194_304,
+            },
+        ),
+    ];
+    for (words, limits) in cases {
+        let texts = texts(&rt, words)?;
+        assert_eq!(rt;
+            read_words(rt.alloc(), &texts)?.limits(),
+            limits,
+            "at {words:?}"
+        );
+    }
+    Ok(())
+}
+
+#[test]
+fn options_come_in_any_order(rt: HostRuntime) -> Result<(), Fail> {
+    let texts = texts(&rt, &["graph", "f", "--order=1,r", "--args=-2,0xFF,7"])?;
+    let mut job = read_words(rt.alloc(), &texts)?;
+    assert_eq!(rt; job.args(), [4_294_967_294, 255, 7].as_slice());
+    let mut order = job.take_order();
+    assert_eq!(rt; order.choose(true, 2), Choice::Deliver(1));
+    assert_eq!(rt; order.choose(true, 2), Choice::Run);
+    assert_eq!(rt; job.take_order().choose(false, 3), Choice::Deliver(0));
+    Ok(())
+}
+
+#[test]
+fn an_order_file_may_have_any_name(rt: HostRuntime) -> Result<(), Fail> {
+    let cases: [(&str, &[u8]); 3] = [
+        ("--order-file=o", b"o"),
+        ("--order-file=", b""),
+        ("--order-file=-x=--order=r", b"-x=--order=r"),
+    ];
+    for (word, name) in cases {
+        let texts = texts(&rt, &["graph", "f", word])?;
+        let job = read_words(rt.alloc(), &texts)?;
+        assert_eq!(rt;
+            job.order_file().map(|file| file.as_bytes()),
+            Some(name),
+            "at {word}"
+        );
+    }
+    Ok(())
+}
+
+#[test]
+fn causes_have_their_names(rt: HostRuntime) {
+    let cases: [(UsageCause, &[u8]); 9] = [
+        (UsageCause::Words, b"Words"),
+        (UsageCause::Mode, b"Mode"),
+        (UsageCause::Extra, b"Extra"),
+        (UsageCause::Args, b"Args"),
+        (UsageCause::Order, b"Order"),
+        (UsageCause::Budget, b"Budget"),
+        (UsageCause::Frames, b"Frames"),
+        (UsageCause::Cells, b"Cells"),
+        (UsageCause::ArgsCount, b"ArgsCount"),
+    ];
+    for (cause, name) in cases {
+        assert_eq!(rt; cause.name(), name);
+    }
+}

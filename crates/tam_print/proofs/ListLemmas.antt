@@ -8,7 +8,7 @@ use Rattle.std.proofs.lemmas.List.{append-nil, drop_all}
 use Rattle.std.proofs.lemmas.Option.{slice_get-get_or}
 use Rattle.tam_word.specs.Lists.{where_so, below}
 use Rattle.tam_word.proofs.Tests.{number-eq, number-differs}
-use Rattle.tam_word.proofs.Members.{In, get-in, in-filter, in-below}
+use Rattle.tam_word.proofs.Members.{get-in, in-filter, in-below}
 use Rattle.tam_graph.specs.declared.node.Node.{Node}
 use Rattle.tam_graph.specs.Graphs.{Code, block_at, or_block, nodes_in, node_numbers}
 use Rattle.tam_print.specs.BlockLists.{listed, AreBlocks}

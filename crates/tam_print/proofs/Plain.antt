@@ -1,5 +1,5 @@
 -- Names, numbers and the words of the format are bytes of tokens: no blank, LF or `#` is in them.
-use Rattle.std.proofs.Common.{◌≡◌, ℕ, ◌^◌, ◌-◌, ◌<◌, ◌≤◌, List, [], ◌∷◌, Bool, true, false, refl, sym, arith, length, true≢false, ◌==◌, ◌&&◌, ◌||◌, nat_lt, nat_le}
+use Rattle.std.proofs.Common.{◌≡◌, ℕ, ◌^◌, ◌-◌, ◌<◌, ◌≤◌, List, [], ◌∷◌, Bool, true, false, refl, sym, arith, length, true≢false, ◌==◌, ◌&&◌, nat_lt, nat_le}
 use Rattle.std.proofs.Common.{cond}
 use Rattle.std.specs.Prelude.{decimal}
 use Rattle.std.proofs.lemmas.Bool.{le-leb, leb-true}

@@ -1,14 +1,13 @@
 -- The tokens of a node's line: their texts are words, and spellings of the tokens.
-use Rattle.std.proofs.Common.{◌≡◌, ℕ, zero, suc, ◌^◌, ◌<◌, ◌≤◌, List, [], ◌∷◌, ◌++◌, Bool, true, false, refl, sym, ap, ◌∙◌, arith, true≢false, ◌==◌, ◌&&◌, not, nat_lt, nat_le, length}
-use Rattle.std.proofs.Common.{slice_get, Some, None, Option, inl, inr}
+use Rattle.std.proofs.Common.{◌≡◌, ℕ, zero, suc, ◌^◌, ◌<◌, ◌≤◌, List, [], ◌∷◌, ◌++◌, Bool, true, false, refl, sym, ap, arith, true≢false, ◌&&◌, nat_lt, nat_le, length}
+use Rattle.std.proofs.Common.{slice_get, Some, inl, inr}
 use Rattle.std.specs.Prelude.{codes, decimal}
 use Rattle.std.proofs.lemmas.Bool.{leb-true}
 use Rattle.std.proofs.lemmas.Option.{slice_get_cases}
 use Rattle.tam_word.specs.declared.op.Op.{Op}
 use Rattle.tam_word.specs.declared.op.Op.TheVariants.{Add, Sub, Mul, Div, Divu, Rem, Remu, And, Or, Xor, Sll, Srl, Sra, Slt, Sltu, Eq}
 use Rattle.tam_word.specs.Lists.{all_of}
-use Rattle.tam_word.specs.Words.{signed_text}
-use Rattle.tam_word.proofs.Tests.{both-true, true-both, test-below, below-test, self-eq}
+use Rattle.tam_word.proofs.Tests.{both-true, test-below, below-test, self-eq}
 use Rattle.tam_word.proofs.Members.{In, all-in, get-in, below-in}
 use Rattle.tam_word.proofs.SignedText.{word_of-signed_text}
 use Rattle.tam_graph.specs.declared.kind.Kind.{Kind}
@@ -16,9 +15,8 @@ use Rattle.tam_graph.specs.declared.kind.Kind.TheVariants.{Param, Const, Op as O
 use Rattle.tam_graph.specs.declared.kind.Kind.TheVariants.{Enter, Leave}
 use Rattle.tam_graph.specs.declared.node.Node.{Node}
 use Rattle.tam_graph.specs.Graphs.{Code, Graph, code_of, kind_at, depth_at, has_value, node_numbers}
-use Rattle.tam_graph.specs.Lines.{is_some_of}
 use Rattle.tam_graph.specs.Written.{is_operand, is_call_node, is_cond_node, is_line, named_by, greatest_depth}
-use Rattle.tam_graph.specs.Texts.{Token, Bytes, Number, Line, token_text, spells, op_name, node_name, or_name, or_bytes, is_named, suffix, tokens, node_line}
+use Rattle.tam_graph.specs.Texts.{Token, Bytes, Number, Line, token_text, spells, op_name, node_name, or_bytes, is_named, suffix, tokens, node_line}
 use Rattle.tam_graph.specs.Reading.{is_token, is_named_right, IsCodeOfText, IsOfText}
 use Rattle.tam_graph.proofs.SameBytes.{same_self}
 use Rattle.tam_graph.proofs.AcceptedFacts.{call-node, cond-node}

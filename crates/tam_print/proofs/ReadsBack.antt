@@ -1,5 +1,5 @@
 -- The canonical text of a graph reads as the graph.
-use Rattle.std.proofs.Common.{◌≡◌, ℕ, suc, ◌<◌, List, [], ◌∷◌, ◌++◌, Bool, true, false, refl, sym, ap, subst, ◌∙◌, true≢false, ◌&&◌, length, map, flat_map, inl, inr, ◌⊎◌}
+use Rattle.std.proofs.Common.{◌≡◌, ℕ, ◌<◌, List, [], ◌∷◌, Bool, true, false, refl, sym, ap, subst, ◌∙◌, ◌&&◌, length, map, inl, inr, ◌⊎◌}
 use Rattle.std.specs.Prelude.{codes}
 use Rattle.std.proofs.lemmas.Option.{slice_get_within}
 use Rattle.tam_word.specs.Lists.{all_of}
@@ -9,9 +9,9 @@ use Rattle.tam_graph.specs.declared.kind.Kind.TheVariants.{Enter, Leave}
 use Rattle.tam_word.proofs.Tests.{both-true, true-both}
 use Rattle.tam_word.proofs.Members.{In, in-all, in-map, in-append, in-flat_map, flat_map-in, in-below, in-get}
 use Rattle.tam_graph.specs.Graphs.{Code, Graph, code_of, or_code, kind_at}
-use Rattle.tam_graph.specs.Lines.{is_some_of, token_lines}
+use Rattle.tam_graph.specs.Lines.{is_some_of}
 use Rattle.tam_graph.specs.Written.{Visit, AtNode, AtElse, AtEnd, visits, node_visited}
-use Rattle.tam_graph.specs.Texts.{Token, Bytes, Number, Line, token_text, visit_line, node_line, tokens, code_lines, graph_lines, canonical, is_named, end_line}
+use Rattle.tam_graph.specs.Texts.{Bytes, Line, token_text, visit_line, node_line, tokens, code_lines, graph_lines, canonical, is_named, end_line}
 use Rattle.tam_graph.specs.Reading.{is_token, same_line, same_lines, IsCodeOfText, IsOfText, Reads}
 use Rattle.tam_print.proofs.Plain.{all-parts, all-more, name-word}
 use Rattle.tam_print.proofs.Cutting.{is_printed, is_printed_line, text-words, text-good}

@@ -1,10 +1,8 @@
 -- The text of a node's line by its parts, of a block by its nodes, and of a graph by its codes.
-use Rattle.std.proofs.Common.{◌≡◌, ◌∙◌, ℕ, zero, suc, List, [], ◌∷◌, ◌++◌, Bool, true, false, flat_map, map, refl, sym, ap, append_assoc, true≢false, length, ◌<◌, drop}
+use Rattle.std.proofs.Common.{◌≡◌, ◌∙◌, ℕ, suc, List, [], ◌∷◌, ◌++◌, Bool, true, false, flat_map, map, refl, sym, ap, append_assoc, true≢false, length}
 use Rattle.std.specs.Prelude.{codes, Option, Some, None, slice_get, is_none}
 use Rattle.std.proofs.lemmas.Grind.{flat_map-append}
-use Rattle.std.proofs.lemmas.List.{append-nil}
 use Rattle.std.proofs.lemmas.List.Folds.{flat_map-map}
-use Rattle.tam_word.specs.Lists.{all_of}
 use Rattle.tam_word.proofs.Members.{all-in, get-in, below-in}
 use Rattle.tam_graph.specs.declared.node.Node.{Node}
 use Rattle.tam_graph.specs.declared.kind.Kind.{Kind}
@@ -13,7 +11,7 @@ use Rattle.tam_graph.specs.declared.kind.Kind.TheVariants.{Enter, Leave}
 use Rattle.tam_graph.specs.Graphs.{Code, Graph, kind_at, nodes_in, node_numbers, or_kind, or_depth}
 use Rattle.tam_graph.specs.Names.{is_name}
 use Rattle.tam_graph.specs.Written.{Visit, AtNode, AtElse, AtEnd, branches, visits, is_line}
-use Rattle.tam_graph.specs.Texts.{Line, Bytes, line_text, visit_line, node_line, tokens, is_named, suffix, or_bytes, or_name, end_line, code_lines, graph_lines, canonical}
+use Rattle.tam_graph.specs.Texts.{Line, Bytes, line_text, visit_line, node_line, tokens, is_named, suffix, or_bytes, or_name, end_line, code_lines, canonical}
 use Rattle.tam_graph.specs.Reading.{is_named_right, IsCodeOfText}
 use Rattle.std.proofs.lemmas.Option.{slice_get_within}
 use Rattle.tam_print.specs.PrintedLines.{front_text, block_text, branches_text, code_text}

@@ -1,5 +1,4 @@
 use Rattle.std.proofs.Common.{◌≡◌, ◌++◌, ◌+◌, ◌*◌, ◌-◌, drop, flat_map}
-use Rattle.tam_print.specs.BlockLists.{listed}
 use Rattle.tam_print.proofs.Texts.{item_text}
 use Rattle.tam_print.proofs.block.+blocks.Given as goal
 

@@ -1,0 +1,6 @@
+pub mod Plain
+pub mod Cutting
+pub mod Printed
+pub mod ReadsBack
+pub mod ListLemmas
+pub mod Texts

@@ -7,11 +7,13 @@
 mod broken;
 mod finishing;
 mod last_lines;
+mod laws;
 mod lines;
 mod outcome;
 mod whole_run;
 mod writing;
 
 use broken::Broken;
+pub use laws::law_runs;
 pub use outcome::Outcome;
 pub use whole_run::run;

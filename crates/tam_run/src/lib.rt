@@ -1,7 +1,7 @@
 //! Runs of an accepted graph at a level, with the text that they write.
 //!
 //! Over the crates of graphs, messages and levels. The program's top call stands on this crate.
-//! Read `specs/Writing.antt` first: what a run wrote, by how it ended. Then `src/run.rt`.
+//! Read `specs/Writing.antt` first: what a run wrote, by how it ended. Then `src/whole_run.rt`, and `specs/RightRuns.antt`: that each run is right.
 #![tactic(auto)]
 
 mod broken;

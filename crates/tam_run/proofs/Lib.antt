@@ -11,3 +11,4 @@ pub mod JournalCauses
 pub mod RightJournals
 pub mod GraphJournals
 pub mod QuietRuns
+pub mod RoomExample

@@ -1,3 +1,4 @@
 pub mod LineLists
 pub mod Ends
 pub mod Writing
+pub mod RightRuns

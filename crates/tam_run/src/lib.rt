@@ -1,17 +1,19 @@
 //! Runs of an accepted graph at a level, with the text that they write.
 //!
 //! Over the crates of graphs, messages and levels. The program's top call stands on this crate.
-//! Read `specs/Writing.antt` first: what a run wrote, by how it ended. Then `src/run.rt`.
+//! Read `specs/Writing.antt` first: what a run wrote, by how it ended. Then `src/whole_run.rt`, and `specs/RightRuns.antt`: that each run is right.
 #![tactic(auto)]
 
 mod broken;
 mod finishing;
 mod last_lines;
+mod laws;
 mod lines;
 mod outcome;
 mod whole_run;
 mod writing;
 
 use broken::Broken;
+pub use laws::law_runs;
 pub use outcome::Outcome;
 pub use whole_run::run;

@@ -1,0 +1,85 @@
+-- A report that a journal bears out is right: over any valid partitions, whatever made the run.
+use Rattle.std.proofs.Common.{◌≡◌, ◌↔◌, ℕ, ◌+◌, ◌<◌, List, length, Contains, Some, sym, subst, slice_get}
+use Rattle.tam_word.proofs.Members.{In}
+use Rattle.tam_graph.specs.Graphs.{Graph, code_of, results_of}
+use Rattle.tam_split.specs.GraphPartitions.{Partitions}
+use Rattle.tam_fire.specs.FiringRules.{Result}
+use Rattle.tam_msgs.specs.declared.message.Message.TheVariants.{Frame as Begin, Cells as Make}
+use Rattle.tam_msgs.specs.declared.limits.Limits.{Limits}
+use Rattle.tam_msgs.specs.Runs.{End, Quiet, Double_write, Out_of_range, Frames_full, Cells_full, Budget_spent, Wild, Trap, Report, missing_of}
+use Rattle.tam_istr.specs.Cells.{cells_used}
+use Rattle.tam_flow.specs.Worlds.{Second_store, Outside_cells}
+use Rattle.tam_flow.specs.Journals.{Event, state_after, on_their_way, IsQuiet}
+use Rattle.tam_flow.specs.JournalLaws.{IsJournal}
+use Rattle.tam_flow.specs.RunJournals.{IsCharged}
+use Rattle.tam_flow.proofs.Faults.{faults_are-given}
+use Rattle.tam_eval.specs.Headline.{IsRight, IsExact, HasCause, TooManyActivations, TooManyEvents}
+use Rattle.tam_run.proofs.JournalResults.{printed-result, printed-once, result-printed, missing-is}
+use Rattle.tam_run.proofs.JournalCauses.{more-activations, more-cells, more-events}
+
+-- the journal's state bears out the end
+abbrev pub BearsOut : Graph → Partitions → List ℕ → Limits → List Event → ℕ → End → Type 0
+BearsOut g all args limits events made Quiet = IsQuiet g all args events
+BearsOut g all args limits events made (Double_write a b) = (state_after g all args events).fault ≡ Some (Second_store a b)
+BearsOut g all args limits events made (Out_of_range a i l) = (state_after g all args events).fault ≡ Some (Outside_cells a i l)
+BearsOut g all args limits events made (Frames_full n) =
+    (n ≡ limits.frames) × (length (state_after g all args events).world.activations ≡ n)
+    × ((c f x : ℕ) × In (Begin c f x) (on_their_way (state_after g all args events)))
+BearsOut g all args limits events made (Cells_full u l) =
+    (limits.cells < u + l) × (cells_used (state_after g all args events).world.arrays ≡ u)
+    × ((f x : ℕ) × In (Make l f x) (on_their_way (state_after g all args events)))
+BearsOut g all args limits events made (Budget_spent n) = (n ≡ limits.budget) × (made ≡ n)
+BearsOut g all args limits events made (Wild what n) = ⊥
+BearsOut g all args limits events made (Trap pc cause) = ⊥
+
+-- a report with a journal: the words that it printed, and a state that bears out its end
+pub record IsBorneOut (g : Graph) (all : Partitions) (args : List ℕ) (limits : Limits) (r : Report) : Type 0 where
+  pub events : List Event
+  pub journal : IsJournal g all args events
+  pub printed : (state_after g all args events).printed ≡ r.printed
+  pub results : r.results ≡ results_of (code_of g g.main)
+  pub ends : BearsOut g all args limits events r.events r.how
+  pub charged : IsCharged g all (state_after g all args events) r.events
+
+module _ (g : Graph) (all : Partitions) (args : List ℕ) (limits : Limits) (events : List Event) (journal : IsJournal g all args events) (made : ℕ)
+    (charged : IsCharged g all (state_after g all args events) made) where
+  -- an end that is borne out has its cause
+  cause-of : (how : End) → BearsOut g all args limits events made how → HasCause g args limits how
+  cause-of Quiet h = tt
+  cause-of (Double_write a b) h = (faults_are-given g all args events journal).double a b h
+  cause-of (Out_of_range a i l) h = (faults_are-given g all args events journal).outside a i l h
+  cause-of (Frames_full n) h =
+      (h.0, subst (TooManyActivations g args) h.1 (more-activations g all args events journal h.2.0 h.2.1 h.2.2 h.2.3))
+  cause-of (Cells_full u l) h =
+      (h.0, more-cells g all args events journal l h.2.0 h.2.1 limits.cells h.2.2 (subst (λ n. limits.cells < n + l) (sym h.1) h.0))
+  cause-of (Budget_spent n) h =
+      (h.0, subst (TooManyEvents g args) h.1 (more-events g all args events journal made charged))
+  cause-of (Wild what n) h = absurd h
+  cause-of (Trap pc cause) h = absurd h
+
+-- a report that is borne out is right
+pub borne-right : (g : Graph) (all : Partitions) (args : List ℕ) (limits : Limits) (r : Report) → IsBorneOut g all args limits r → IsRight g args limits r
+borne-right g all args limits r b = record {
+  results = λ k w h. printed-result g all args b.events b.journal k w (subst (λ xs. Contains xs (k, w)) (sym b.printed) h);
+  each_once = λ i j k v w p q. printed-once g all args b.events b.journal i j k v w
+      (subst (λ xs. slice_get xs i ≡ Some (k, v)) (sym b.printed) p) (subst (λ xs. slice_get xs j ≡ Some (k, w)) (sym b.printed) q);
+  exact = exact;
+  cause = cause-of g all args limits b.events b.journal r.events b.charged r.how b.ends;
+}
+  where
+    exact : r.how ≡ Quiet → IsExact g args r
+    exact e = record {
+      lines = λ k w. (
+        λ h. printed-result g all args b.events b.journal k w (subst (λ xs. Contains xs (k, w)) (sym b.printed) h),
+        λ h. subst (λ xs. Contains xs (k, w)) b.printed (result-printed g all args b.events b.journal quiet k w h),
+      );
+      missing = λ k. subst (λ how. Contains (missing_of how r.results r.printed) k
+          ↔ ((k < results_of (code_of g g.main)) × ((w : ℕ) → ¬ Result g args k w))) (sym e)
+          (subst (λ n. Contains (missing_of Quiet n r.printed) k ↔ ((k < results_of (code_of g g.main)) × ((w : ℕ) → ¬ Result g args k w))) (sym b.results)
+          (subst (λ xs. Contains (missing_of Quiet (results_of (code_of g g.main)) xs) k
+          ↔ ((k < results_of (code_of g g.main)) × ((w : ℕ) → ¬ Result g args k w))) b.printed
+          (missing-is g all args b.events b.journal quiet (results_of (code_of g g.main)) k)));
+    }
+      where
+        quiet : IsQuiet g all args b.events
+        quiet = subst (BearsOut g all args limits b.events r.events) e b.ends

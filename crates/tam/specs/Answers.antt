@@ -1,6 +1,6 @@
 -- What the program writes, and with which status, by what the words ask for and by what is left of the files.
 -- The rule in words: docs/FORMATS.md, "Command line".
-use Rattle.std.specs.Prelude.{ℕ, ◌≡◌, ◌≢◌, Bool, true, false, List, [], ◌∷◌, ◌++◌, flat_map, length, Option, Some, None}
+use Rattle.std.specs.Prelude.{ℕ, ◌≡◌, ◌≢◌, List, [], ◌∷◌, ◌++◌, flat_map, length, Option, Some, None}
 use Rattle.tam_graph.specs.declared.place.Place.{Place}
 use Rattle.tam_graph.specs.declared.check_cause.CheckCause.{CheckCause}
 use Rattle.tam_graph.specs.Graphs.{Graph, code_of, params_of}
@@ -19,16 +19,11 @@ use Rattle.tam_words.specs.declared.mode.Mode.{Mode}
 use Rattle.tam_words.specs.declared.mode.Mode.TheVariants as mode
 use Rattle.tam_words.specs.declared.usage_cause.UsageCause.TheVariants.{ArgsCount}
 use Rattle.tam_words.specs.Jobs.{Asked, Job, JobParts}
-use Rattle.tam_list.specs.Listings.{check_text, sets_text, parts_text}
+use Rattle.tam_list.specs.Listings.{check_text}
 use Rattle.tam_input.specs.declared.refusal.Refusal.{Refusal}
 use Rattle.tam_input.specs.Refusing.{Files, IsLeft, IsOrder, IsUntold, Refuses, input_of, most_bytes, usage_line, no_memory_line, refusal_status, refusal_line}
 use Rattle.tam_input.specs.Inputs.{Request, request_of}
 use Rattle.tam.specs.AnswerLines.{refused_line, read_cause_name, check_cause_name}
-
--- the mode reads a graph's text
-abbrev pub reads_graph : Mode → Bool
-reads_graph mode.Assemble = false
-reads_graph m = true
 
 -- the bytes are a text of an accepted graph
 pub record Spells (bytes : List ℕ) (g : Graph) : Type 0 where
@@ -39,9 +34,7 @@ pub record Spells (bytes : List ℕ) (g : Graph) : Type 0 where
 abbrev pub listing : Mode → Graph → Option (List ℕ)
 listing mode.Check g = Some (check_text g)
 listing mode.EmitDg g = Some (canonical g)
-listing mode.Sets g = Some (sets_text g)
-listing mode.Parts g = Some (parts_text g)
-listing m g = None
+listing mode.Graph g = None
 
 -- ---- runs
 
@@ -76,10 +69,10 @@ pub record AsksGraph (ask : Request) (bytes : List ℕ) (g : Graph) : Type 0 whe
 -- by what is asked of these bytes, the status and the text that are answered
 pub data AnswerTo (ask : Request) (bytes : List ℕ) : ℕ → List ℕ → Type 0 where
   -- the bytes read as no graph
-  not_graph : {n : ℕ} {cause : ReadCause} → reads_graph ask.mode ≡ true → first_fault bytes ≡ (n, cause) ∷ []
+  not_graph : {n : ℕ} {cause : ReadCause} → first_fault bytes ≡ (n, cause) ∷ []
       → AnswerTo ask bytes 1 (refused_line n (read_cause_name cause))
   -- they read as one that isn't accepted
-  not_accepted : {g : Graph} {place : Place} {cause : CheckCause} → reads_graph ask.mode ≡ true → Reads bytes g
+  not_accepted : {g : Graph} {place : Place} {cause : CheckCause} → Reads bytes g
       → first_refused g ≡ Some (place, cause) → AnswerTo ask bytes 1 (refused_line (line_at (lines_in bytes) place) (check_cause_name cause))
   -- as an accepted one, which is listed
   listed : {g : Graph} {text : List ℕ} → Spells bytes g → listing ask.mode g ≡ Some text → AnswerTo ask bytes 0 text

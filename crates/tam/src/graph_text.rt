@@ -1,9 +1,9 @@
 // What is answered to a graph's text.
-ghost use Rattle.std.specs.Prelude.{◌≡◌, ◌≤◌, true, ℕ, List, length};
+ghost use Rattle.std.specs.Prelude.{◌≡◌, ◌≤◌, ℕ, List, length};
 ghost use Rattle.tam_graph.specs.Reading.{Reads};
 ghost use Rattle.tam_read.specs.Placed.{lines_in};
 ghost use Rattle.tam_input.specs.Inputs.{request_of};
-ghost use Rattle.tam.specs.Answers.{AnswerTo, Spells, reads_graph};
+ghost use Rattle.tam.specs.Answers.{AnswerTo, Spells};
 ghost use Rattle.tam.specs.Headline.{IsDone};
 
 use crate::graph_run::run_graph;
@@ -14,7 +14,7 @@ use std::alloc::Global;
 use tam_check::{CheckError, check};
 use tam_edge::Sink;
 use tam_graph::Accepted;
-use tam_list::{print_check, print_parts, print_sets};
+use tam_list::print_check;
 use tam_msgs::Order;
 use tam_print::print;
 use tam_read::{Found, Refused, read};
@@ -29,7 +29,6 @@ pub fn answer_graph_text<K: Sink>(
     out: &mut K,
 ) -> Status
     requires few { length text.now ≤ 1048576 }
-    requires graph { reads_graph job.now.mode ≡ true }
     ensures done { IsDone (AnswerTo (request_of job.now order) text.now) result.code
         (K.taken out.old) (K.taken out.new) (K.faults out.old) (K.faults out.new) }
 {
@@ -50,7 +49,6 @@ fn answer_found<K: Sink>(
     order: Order,
     out: &mut K,
 ) -> Status
-    requires graph { reads_graph job.now.mode ≡ true }
     ensures done { (bytes : List ℕ) → Reads bytes found.graph → found.lines ≡ lines_in bytes → IsDone (AnswerTo (request_of job.now order) bytes) result.code
         (K.taken out.old) (K.taken out.new) (K.faults out.old) (K.faults out.new) }
 {
@@ -73,7 +71,6 @@ fn answer_accepted<K: Sink>(
     order: Order,
     out: &mut K,
 ) -> Status
-    requires graph { reads_graph job.now.mode ≡ true }
     ensures done { (bytes : List ℕ) → Spells bytes graph.now → IsDone (AnswerTo (request_of job.now order) bytes) result.code
         (K.taken out.old) (K.taken out.new) (K.faults out.old) (K.faults out.new) }
 {
@@ -81,8 +78,5 @@ fn answer_accepted<K: Sink>(
         Mode::Graph => run_graph(alloc, graph, job, order, out),
         Mode::Check => say_made(print_check(alloc, graph), 0, out),
         Mode::EmitDg => say_made(print(alloc, graph.graph()), 0, out),
-        Mode::Sets => say_made(print_sets(alloc, graph), 0, out),
-        Mode::Parts => say_made(print_parts(alloc, graph), 0, out),
-        Mode::Assemble => unreachable!(),
     }
 }

@@ -5,7 +5,6 @@
 #![tactic(auto)]
 
 mod answer;
-mod assembly;
 mod graph_run;
 mod graph_text;
 mod refusal;

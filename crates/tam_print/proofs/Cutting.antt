@@ -5,7 +5,7 @@ use Rattle.std.specs.List.{onto_first, slice_split}
 use Rattle.std.proofs.lemmas.Bool.{le-leb, leb-true}
 use Rattle.tam_word.specs.Lists.{all_of}
 use Rattle.tam_word.proofs.Tests.{both-true, differs-number}
-use Rattle.tam_graph.specs.Lines.{lines_of, is_blank, without_comment, is_some_of, words_of, token_lines, is_good_byte, are_good_bytes}
+use Rattle.tam_text.specs.Lines.{lines_of, is_blank, without_comment, is_some_of, words_of, token_lines, is_good_byte, are_good_bytes}
 use Rattle.tam_graph.specs.Texts.{Token, Line, token_text, line_text}
 use Rattle.tam_print.proofs.Plain.{is_plain, is_word, all-parts}
 

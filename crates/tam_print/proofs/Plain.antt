@@ -9,8 +9,8 @@ use Rattle.tam_word.specs.Words.{signed_text}
 use Rattle.tam_word.specs.Numbers.{digit_of, are_digits, is_decimal}
 use Rattle.tam_word.proofs.Tests.{both-true, number-eq, true-both}
 use Rattle.tam_word.proofs.Spelled.{is_decimal-decimal}
-use Rattle.tam_graph.specs.Lines.{is_some_of}
-use Rattle.tam_graph.specs.Names.{is_letter, continues_name, is_name}
+use Rattle.tam_text.specs.Lines.{is_some_of}
+use Rattle.tam_text.specs.Names.{is_letter, continues_name, is_name}
 
 -- a byte of a token: from `-` to `~`
 abbrev pub is_plain : ℕ → Bool

@@ -18,7 +18,7 @@ use Rattle.tam_graph.specs.Graphs.{Code, Graph, code_of, kind_at, depth_at, has_
 use Rattle.tam_graph.specs.Written.{is_operand, is_call_node, is_cond_node, is_line, named_by, greatest_depth}
 use Rattle.tam_graph.specs.Texts.{Token, Bytes, Number, Line, token_text, spells, op_name, node_name, or_bytes, is_named, suffix, tokens, node_line}
 use Rattle.tam_graph.specs.Reading.{is_token, is_named_right, IsCodeOfText, IsOfText}
-use Rattle.tam_graph.proofs.SameBytes.{same_self}
+use Rattle.tam_text.proofs.SameBytes.{same_self}
 use Rattle.tam_graph.proofs.AcceptedFacts.{call-node, cond-node}
 use Rattle.tam_print.proofs.Plain.{is_plain, is_word, all-parts, all-more, decimal-word, decimal-plain, signed-word, name-word}
 

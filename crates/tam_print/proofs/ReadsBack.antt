@@ -9,7 +9,7 @@ use Rattle.tam_graph.specs.declared.kind.Kind.TheVariants.{Enter, Leave}
 use Rattle.tam_word.proofs.Tests.{both-true, true-both}
 use Rattle.tam_word.proofs.Members.{In, in-all, in-map, in-append, in-flat_map, flat_map-in, in-below, in-get}
 use Rattle.tam_graph.specs.Graphs.{Code, Graph, code_of, or_code, kind_at}
-use Rattle.tam_graph.specs.Lines.{is_some_of}
+use Rattle.tam_text.specs.Lines.{is_some_of}
 use Rattle.tam_graph.specs.Written.{Visit, AtNode, AtElse, AtEnd, visits, node_visited}
 use Rattle.tam_graph.specs.Texts.{Bytes, Line, token_text, visit_line, node_line, tokens, code_lines, graph_lines, canonical, is_named, end_line}
 use Rattle.tam_graph.specs.Reading.{is_token, same_line, same_lines, IsCodeOfText, IsOfText, Reads}

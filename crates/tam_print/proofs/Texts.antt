@@ -9,7 +9,7 @@ use Rattle.tam_graph.specs.declared.kind.Kind.{Kind}
 use Rattle.tam_graph.specs.declared.kind.Kind.TheVariants.{Param, Const, Op as Operate, Seq, Call, Arg, Ret, Give, Alloc, Fetch, Store, Cond, Switch, Merge}
 use Rattle.tam_graph.specs.declared.kind.Kind.TheVariants.{Enter, Leave}
 use Rattle.tam_graph.specs.Graphs.{Code, Graph, kind_at, nodes_in, node_numbers, or_kind, or_depth}
-use Rattle.tam_graph.specs.Names.{is_name}
+use Rattle.tam_text.specs.Names.{is_name}
 use Rattle.tam_graph.specs.Written.{Visit, AtNode, AtElse, AtEnd, branches, visits, is_line}
 use Rattle.tam_graph.specs.Texts.{Line, Bytes, line_text, visit_line, node_line, tokens, is_named, suffix, or_bytes, or_name, end_line, code_lines, canonical}
 use Rattle.tam_graph.specs.Reading.{is_named_right, IsCodeOfText}

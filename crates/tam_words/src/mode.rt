@@ -11,19 +11,13 @@ pub enum Mode {
     Graph,
     Check,
     EmitDg,
-    Sets,
-    Parts,
-    Assemble,
 }
 
 /// Every mode, in the order of `Mode`.
-pub const MODES: [Mode; 6] = [
+pub const MODES: [Mode; 3] = [
     Mode::Graph,
     Mode::Check,
     Mode::EmitDg,
-    Mode::Sets,
-    Mode::Parts,
-    Mode::Assemble,
 ];
 
 impl Mode {
@@ -35,9 +29,6 @@ impl Mode {
             Mode::Graph => b"graph",
             Mode::Check => b"check",
             Mode::EmitDg => b"emit-dg",
-            Mode::Sets => b"sets",
-            Mode::Parts => b"parts",
-            Mode::Assemble => b"assemble",
         }
     }
 

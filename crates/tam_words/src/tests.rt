@@ -74,7 +74,7 @@ fn wrong_words_have_their_cause(rt: HostRuntime) -> Result<(), Fail> {
             &["graph", "f", "--order-file=", "--cells=+1"],
             UsageCause::Cells,
         ),
-        (&["sets", "f", "--help"], UsageCause::Words),
+        (&["check", "f", "--help"], UsageCause::Words),
     ];
     for (words, cause) in cases {
         check_cause(&rt, words, cause)?;
@@ -101,9 +101,6 @@ fn modes_have_their_words(rt: HostRuntime) -> Result<(), Fail> {
         ("graph", Mode::Graph),
         ("check", Mode::Check),
         ("emit-dg", Mode::EmitDg),
-        ("sets", Mode::Sets),
-        ("parts", Mode::Parts),
-        ("assemble", Mode::Assemble),
     ];
     for (word, mode) in cases {
         let texts = texts(&rt, &[word, "f"])?;

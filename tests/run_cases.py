@@ -4,8 +4,8 @@
 usage: run_cases.py PROGRAM FOLDER
 
 Each file FOLDER/*.json is a list of cases. A case has `says` (what it shows), `words`, `files` (their text by name, or
-{"hex": ..}, or {"repeat": [TEXT, COUNT], "behind": TEXT}), `stdout` and `status`. Prints a line for each case that
-differs, and last 'N passed, M failed'.
+{"hex": ..}, {"example": NAME} of the folder examples, or {"repeat": [TEXT, COUNT], "behind": TEXT}), `stdout` and
+`status`. Prints a line for each case that differs, and last 'N passed, M failed'.
 """
 import glob
 import json
@@ -16,12 +16,17 @@ import tempfile
 
 SECONDS = 60
 
+EXAMPLES = os.path.join(os.path.dirname(os.path.dirname(os.path.abspath(__file__))), "examples")
+
 
 def content(value):
     if isinstance(value, str):
         return value.encode()
     if "hex" in value:
         return bytes.fromhex(value["hex"])
+    if "example" in value:
+        with open(os.path.join(EXAMPLES, value["example"]), "rb") as file:
+            return file.read()
     text, count = value["repeat"]
     return (text * count + value.get("behind", "")).encode()
 

@@ -13,6 +13,25 @@ const EMPTY: &[u8] = b"dg 1\ncode main\nend\n";
 
 const CALL: &[u8] = b"dg 1\ncode main\nf = call main\nend\n";
 
+const DOUBLE: &[u8] =
+    b"dg 1\ncode main\nx = param 0\nn = const 1\nA:1 = alloc n\nz = const 0\nstore A z x\nstore A z n\nv = fetch A z\nresult 0 v\nend\n";
+
+const OUTSIDE: &[u8] =
+    b"dg 1\ncode main\ni = param 0\nn = const 4\nA:1 = alloc n\nstore A i n\nv = fetch A i\nresult 0 v\nend\n";
+
+const LARGE: &[u8] =
+    b"dg 1\ncode main\nn = param 0\nA:1 = alloc n\nr = seq n A\nresult 0 r\nend\n";
+
+const MISSING: &[u8] =
+    b"dg 1\ncode main\nn = const 1\nA:1 = alloc n\nz = const 0\nv = fetch A z\nx = param 0\ny = add x n\nresult 0 v\nresult 1 y\nend\n";
+
+const SPACED: &[u8] = b"dg 1\n# note\ncode  main\n k = const 0xffffffff\nresult 0 k\nend\n";
+
+const CYCLE: &[u8] = b"dg 1\ncode main\na = add b b\nb = add a a\nresult 0 a\nend\n";
+
+const OWN_INDEX: &[u8] =
+    b"dg 1\ncode main\nn = const 1\nA:1 = alloc n\na = fetch A b\nb = add a a\nresult 0 a\nend\n";
+
 // Words, the text of the file `f`, the numbers of the writes that fail; what the sink took, and the status.
 #[derive(Drop)]
 struct Case {
@@ -89,24 +108,135 @@ fn graphs_run(rt: HostRuntime) -> Result<(), Fail> {
 }
 
 #[test]
+fn each_end_of_a_run_has_its_status(rt: HostRuntime) -> Result<(), Fail> {
+    let cases = [
+        Case {
+            words: &["graph", "f", "--args=6"],
+            text: MISSING,
+            fail: &[],
+            taken: b"result 1 = 7\nquiet\nmissing 0\nevents 11\nactivations 1\ncells 1\n",
+            status: 4,
+        },
+        Case {
+            words: &["graph", "f", "--args=9"],
+            text: DOUBLE,
+            fail: &[],
+            taken: b"double write 0.4 0.5\nevents 11\nactivations 1\ncells 1\n",
+            status: 5,
+        },
+        Case {
+            words: &["graph", "f", "--args=4"],
+            text: OUTSIDE,
+            fail: &[],
+            taken: b"out of range 0.3 4 4\nevents 8\nactivations 1\ncells 4\n",
+            status: 6,
+        },
+        Case {
+            words: &["graph", "f", "--frames=4"],
+            text: CALL,
+            fail: &[],
+            taken: b"frames full 4\nevents 11\nactivations 4\ncells 0\n",
+            status: 7,
+        },
+        Case {
+            words: &["graph", "f", "--args=0xffffffff"],
+            text: LARGE,
+            fail: &[],
+            taken: b"cells full 0 4294967295\nevents 3\nactivations 1\ncells 0\n",
+            status: 8,
+        },
+        Case {
+            words: &["graph", "f", "--budget=4", "--args=2,3"],
+            text: ADD,
+            fail: &[],
+            taken: b"budget spent 4\nevents 4\nactivations 1\ncells 0\n",
+            status: 9,
+        },
+        Case {
+            words: &["graph", "f", "--budget=5", "--args=2,3"],
+            text: ADD,
+            fail: &[],
+            taken: b"result 0 = 5\nquiet\nevents 5\nactivations 1\ncells 0\n",
+            status: 0,
+        },
+    ];
+    for case in &cases {
+        check(&rt, case)?;
+    }
+    Ok(())
+}
+
+#[test]
+fn graphs_are_checked_and_printed(rt: HostRuntime) -> Result<(), Fail> {
+    let cases = [
+        Case {
+            words: &["check", "f"],
+            text: ADD,
+            fail: &[],
+            taken: b"accepted\ncodes 1\nblocks 1\nvertices 4\n",
+            status: 0,
+        },
+        Case {
+            words: &["check", "f"],
+            text: OWN_INDEX,
+            fail: &[],
+            taken: b"accepted\ncodes 1\nblocks 1\nvertices 7\n",
+            status: 0,
+        },
+        Case {
+            words: &["check", "f"],
+            text: CYCLE,
+            fail: &[],
+            taken: b"refused line 3 Cycle\n",
+            status: 1,
+        },
+        Case {
+            words: &["emit-dg", "f"],
+            text: SPACED,
+            fail: &[],
+            taken: b"dg 1\ncode main\nk = const -1\nresult 0 k\nend\n",
+            status: 0,
+        },
+        Case {
+            words: &["emit-dg", "f"],
+            text: CYCLE,
+            fail: &[],
+            taken: b"refused line 3 Cycle\n",
+            status: 1,
+        },
+    ];
+    for case in &cases {
+        check(&rt, case)?;
+    }
+    Ok(())
+}
+
+#[test]
 fn refusals_have_their_line(rt: HostRuntime) -> Result<(), Fail> {
     let cases = [
         Case {
             words: &["graph", "f"],
-            text: CALL,
+            text: b"",
             fail: &[],
-            taken: b"refused line 1 NotBuilt\n",
+            taken: b"refused line 1 BadHead\n",
             status: 1,
         },
         Case {
             words: &["graph", "f"],
-            text: b"",
+            text: CYCLE,
             fail: &[],
-            taken: b"refused line 1 NotBuilt\n",
+            taken: b"refused line 3 Cycle\n",
             status: 1,
         },
         Case {
             words: &["graph", "gone"],
+            text: ADD,
+            fail: &[],
+            taken: b"read fault\n",
+            status: 3,
+        },
+        Case {
+            words: &["graph", "f", "--order-file=gone"],
             text: ADD,
             fail: &[],
             taken: b"read fault\n",
@@ -127,7 +257,7 @@ fn refusals_have_their_line(rt: HostRuntime) -> Result<(), Fail> {
             status: 2,
         },
         Case {
-            words: &["graph", "f", "--order=r"],
+            words: &["graph", "f", "--order=r", "--order=r"],
             text: ADD,
             fail: &[],
             taken: b"usage Words\n",
@@ -141,10 +271,59 @@ fn refusals_have_their_line(rt: HostRuntime) -> Result<(), Fail> {
             status: 2,
         },
         Case {
+            words: &["check", "f", "--args=1"],
+            text: ADD,
+            fail: &[],
+            taken: b"usage Extra\n",
+            status: 2,
+        },
+        Case {
+            words: &["graph", "f", "--order=r", "--order-file=f"],
+            text: ADD,
+            fail: &[],
+            taken: b"usage Extra\n",
+            status: 2,
+        },
+        Case {
             words: &["graph", "gone", "--args=x"],
             text: ADD,
             fail: &[],
             taken: b"usage Args\n",
+            status: 2,
+        },
+        Case {
+            words: &["graph", "f", "--order=r,x"],
+            text: ADD,
+            fail: &[],
+            taken: b"usage Order\n",
+            status: 2,
+        },
+        Case {
+            words: &["graph", "f", "--order-file=f"],
+            text: ADD,
+            fail: &[],
+            taken: b"usage Order\n",
+            status: 2,
+        },
+        Case {
+            words: &["graph", "f", "--budget=4294967296"],
+            text: ADD,
+            fail: &[],
+            taken: b"usage Budget\n",
+            status: 2,
+        },
+        Case {
+            words: &["graph", "f", "--frames=0"],
+            text: ADD,
+            fail: &[],
+            taken: b"usage Frames\n",
+            status: 2,
+        },
+        Case {
+            words: &["graph", "f", "--cells=4194305"],
+            text: ADD,
+            fail: &[],
+            taken: b"usage Cells\n",
             status: 2,
         },
         Case {

@@ -6,6 +6,8 @@
 
 mod input;
 mod refusal;
+#[cfg(test)]
+mod tests;
 
 pub use input::{Input, read_input};
 pub use refusal::Refusal;

@@ -14,11 +14,7 @@ pub enum Mode {
 }
 
 /// Every mode, in the order of `Mode`.
-pub const MODES: [Mode; 3] = [
-    Mode::Graph,
-    Mode::Check,
-    Mode::EmitDg,
-];
+pub const MODES: [Mode; 3] = [Mode::Graph, Mode::Check, Mode::EmitDg];
 
 impl Mode {
     /// The word that names the mode.

@@ -1,0 +1,117 @@
+-- What was done once a graph was run.
+use Rattle.std.proofs.Common.{◌≡◌, ◌≢◌, ℕ, ◌<◌, ◌^◌, suc, List, [], ◌∷◌, ◌++◌, length, refl, sym, ap, subst, ◌∙◌, slice_get, slice_index_or, Fits, w32, arith, append_assoc}
+use Rattle.std.specs.Prelude.{Option, Some, None, IfSome}
+use Rattle.std.specs.List.{flat_map}
+use Rattle.std.specs.Io.KnownBytes.{Appends}
+use Rattle.std.proofs.KnownBytes.{Appends-trans}
+use Rattle.std.proofs.lemmas.List.{append-nil}
+use Rattle.tam_edge.specs.Faults.{CountsFault}
+use Rattle.tam_edge.specs.Whole.{AppendsFront}
+use Rattle.tam_graph.specs.Graphs.{Graph, AreArguments, code_of, params_of}
+use Rattle.tam_msgs.specs.declared.stop.Stop.{Stop}
+use Rattle.tam_msgs.specs.declared.stop.Stop.TheVariants.{DoubleWrite, OutOfRange, FramesFull, CellsFull, BudgetSpent, NoMemory}
+use Rattle.tam_msgs.specs.Runs.{Report, End, Quiet, Double_write, Out_of_range, Frames_full, Cells_full, Budget_spent, Wild, Trap, result_line, text_of, missing_of}
+use Rattle.tam_run.specs.Ends.{end_of_stop}
+use Rattle.tam_run.specs.Writing.{AppendsFirstLines}
+use Rattle.tam_run.proofs.Fronts.{front-more}
+use Rattle.tam_input.specs.Inputs.{Request}
+use Rattle.tam_input.specs.Refusing.{no_memory_line}
+use Rattle.tam.specs.Answers.{AnswerTo, AsksGraph, ran, ran_out, run_of, status_by, status_of}
+use Rattle.tam.specs.Headline.{IsSaid, IsDone}
+
+-- no end has the status of a write fault
+pub not-ten : (how : End) (ks : List ℕ) → status_by how ks ≢ 10
+not-ten Quiet [] e = absurd (omega (arith, e))
+not-ten Quiet (k ∷ ks) e = absurd (omega (arith, e))
+not-ten (Double_write s t) ks e = absurd (omega (arith, e))
+not-ten (Out_of_range s i l) ks e = absurd (omega (arith, e))
+not-ten (Frames_full n) ks e = absurd (omega (arith, e))
+not-ten (Cells_full u l) ks e = absurd (omega (arith, e))
+not-ten (Budget_spent n) ks e = absurd (omega (arith, e))
+not-ten (Wild what n) ks e = absurd (omega (arith, e))
+not-ten (Trap pc cause) ks e = absurd (omega (arith, e))
+
+-- nor that of a read fault
+pub not-three : (how : End) (ks : List ℕ) → status_by how ks ≢ 3
+not-three Quiet [] e = absurd (omega (arith, e))
+not-three Quiet (k ∷ ks) e = absurd (omega (arith, e))
+not-three (Double_write s t) ks e = absurd (omega (arith, e))
+not-three (Out_of_range s i l) ks e = absurd (omega (arith, e))
+not-three (Frames_full n) ks e = absurd (omega (arith, e))
+not-three (Cells_full u l) ks e = absurd (omega (arith, e))
+not-three (Budget_spent n) ks e = absurd (omega (arith, e))
+not-three (Wild what n) ks e = absurd (omega (arith, e))
+not-three (Trap pc cause) ks e = absurd (omega (arith, e))
+
+-- nor that of want of memory
+pub not-eleven : (how : End) (ks : List ℕ) → status_by how ks ≢ 11
+not-eleven Quiet [] e = absurd (omega (arith, e))
+not-eleven Quiet (k ∷ ks) e = absurd (omega (arith, e))
+not-eleven (Double_write s t) ks e = absurd (omega (arith, e))
+not-eleven (Out_of_range s i l) ks e = absurd (omega (arith, e))
+not-eleven (Frames_full n) ks e = absurd (omega (arith, e))
+not-eleven (Cells_full u l) ks e = absurd (omega (arith, e))
+not-eleven (Budget_spent n) ks e = absurd (omega (arith, e))
+not-eleven (Wild what n) ks e = absurd (omega (arith, e))
+not-eleven (Trap pc cause) ks e = absurd (omega (arith, e))
+
+-- the status of a quiet run
+pub quiet-status : (how : End) (ks : List ℕ) (missing code : ℕ) → how ≡ Quiet → missing ≡ length ks → (missing ≡ 0 → code ≡ 0) → (missing ≢ 0 → code ≡ 4)
+    → code ≡ status_by how ks
+quiet-status how ks missing code q m none some = go ks m ∙ ap (λ h. status_by h ks) (sym q)
+  where
+    go : (ls : List ℕ) → missing ≡ length ls → code ≡ status_by Quiet ls
+    go [] e = none e
+    go (k ∷ ls) e = some (λ z. absurd (omega (arith, e, z)))
+
+-- the status of a run that stopped
+pub stop-status : (how : End) (ks : List ℕ) (stop : Stop) (code : ℕ) → Some how ≡ end_of_stop stop → IfSome (end_of_stop stop) (λ h. code ≡ status_by h [])
+    → code ≡ status_by how ks
+stop-status how ks (DoubleWrite s t) code e c = c ∙ ap (λ h. status_by h ks) (sym (some-is how (Double_write s t) e))
+stop-status how ks (OutOfRange s i l) code e c = c ∙ ap (λ h. status_by h ks) (sym (some-is how (Out_of_range s i l) e))
+stop-status how ks (FramesFull n) code e c = c ∙ ap (λ h. status_by h ks) (sym (some-is how (Frames_full n) e))
+stop-status how ks (CellsFull u l) code e c = c ∙ ap (λ h. status_by h ks) (sym (some-is how (Cells_full u l) e))
+stop-status how ks (BudgetSpent n) code e c = c ∙ ap (λ h. status_by h ks) (sym (some-is how (Budget_spent n) e))
+stop-status how ks NoMemory code e c = absurd (cc)
+
+some-is : (a b : End) → ◌≡◌ {A = Option End} (Some a) (Some b) → a ≡ b
+some-is a b e = cc
+
+-- one word for each param of `main`
+pub are-arguments : (g : Graph) (args : List ℕ) → length args ≡ params_of (code_of g g.main) → ((k w : ℕ) → slice_get args k ≡ Some w → w < 2 ^ 32)
+    → AreArguments g args
+are-arguments g args one words = record { one_each = one; words = words }
+
+module _ (ask : Request) (bytes : List ℕ) (g : Graph) (asks : AsksGraph ask bytes g) (old new : Option (List ℕ)) (faults faults_new : ℕ) where
+  -- a run was written whole
+  pub whole-done : (status : ℕ) → status ≡ status_of (run_of ask g) → Appends old new (text_of (run_of ask g)) → faults_new ≡ faults
+      → IsDone (AnswerTo ask bytes) status old new faults faults_new
+  whole-done status e taken same = record {
+    said = λ n. (text_of (run_of ask g), subst (λ c. AnswerTo ask bytes c (text_of (run_of ask g))) (sym e) (ran asks), taken);
+    none = λ n. same;
+    broken = λ t. absurd (not-ten (run_of ask g).how (missing_of (run_of ask g).how (run_of ask g).results (run_of ask g).printed) (sym e ∙ t));
+    fault = λ t. absurd (not-ten (run_of ask g).how (missing_of (run_of ask g).how (run_of ask g).results (run_of ask g).printed) (sym e ∙ t));
+  }
+
+  -- a write of a run failed
+  pub broken-done : AppendsFront old new (text_of (run_of ask g)) → CountsFault faults faults_new → IsDone (AnswerTo ask bytes) 10 old new faults faults_new
+  broken-done taken counted = record {
+    said = λ n. absurd (n refl);
+    none = λ n. absurd (n refl);
+    broken = λ e. (status_of (run_of ask g), text_of (run_of ask g), ran asks, taken);
+    fault = λ e. counted;
+  }
+
+  -- memory was wanted in a run, which was said
+  pub out-done : (mid : Option (List ℕ)) (faults_mid status : ℕ) → AppendsFirstLines old mid (run_of ask g).printed → faults_mid ≡ faults
+      → IsSaid 11 no_memory_line status mid new faults_mid faults_new → IsDone (AnswerTo ask bytes) status old new faults faults_new
+  out-done mid faults_mid status (front, rest, is, taken) same s =
+      let text = flat_map result_line front ++ no_memory_line in
+      record {
+        said = λ n. (text, subst (λ c. AnswerTo ask bytes c text) (sym (s.said n).0) (ran_out front rest asks is),
+        Appends-trans old mid new (flat_map result_line front) no_memory_line taken (s.said n).1);
+        none = λ n. s.none n ∙ same;
+        broken = λ e. (11, text, ran_out front rest asks is, front-more old mid new (flat_map result_line front) no_memory_line [] text taken (s.broken e)
+        (ap (λ l. flat_map result_line front ++ l) (sym (append-nil no_memory_line))));
+        fault = λ e. subst (λ f. CountsFault f faults_new) same (s.fault e);
+      }

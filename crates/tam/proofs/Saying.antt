@@ -1,0 +1,25 @@
+-- What was done once a text was said.
+use Rattle.std.proofs.Common.{◌≡◌, ◌≢◌, ℕ, List, sym, subst}
+use Rattle.std.specs.Prelude.{Option}
+use Rattle.tam.specs.Headline.{IsSaid, IsDone}
+
+module _ (old new : Option (List ℕ)) (faults faults_new : ℕ) where
+  -- one of the texts was said
+  pub said-done : (Says : ℕ → List ℕ → Type 0) (meant status : ℕ) (text : List ℕ) → Says meant text → IsSaid meant text status old new faults faults_new
+      → IsDone Says status old new faults faults_new
+  said-done Says meant status text is s = record {
+    said = λ n. (text, subst (λ c. Says c text) (sym (s.said n).0) is, (s.said n).1);
+    none = s.none;
+    broken = λ e. (meant, text, is, s.broken e);
+    fault = s.fault;
+  }
+
+  -- what was done of some texts was done of more
+  pub done-more : (Says More : ℕ → List ℕ → Type 0) (status : ℕ) → ((meant : ℕ) (text : List ℕ) → Says meant text → More meant text)
+      → IsDone Says status old new faults faults_new → IsDone More status old new faults faults_new
+  done-more Says More status more d = record {
+    said = λ n. let s = d.said n in (s.0, more status s.0 s.1, s.2);
+    none = d.none;
+    broken = λ e. let b = d.broken e in (b.0, b.1, more b.0 b.1 b.2, b.3);
+    fault = d.fault;
+  }

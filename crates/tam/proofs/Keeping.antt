@@ -37,10 +37,10 @@ module _ (words : Asked) (left left_new : Files) (faults faults_new : List ℕ �
   }
 
   -- of a call that is refused
-  pub refusal-keeps : {X : Type 0} (r : Refusal) (written written_new : ℕ)
+  pub refusal-keeps : (X : Type 0) (r : Refusal) (written written_new : ℕ)
       → KeepsNamed (Names words) left left_new faults faults_new (IsFault {X = X} (Err r))
       → IsSaid (refusal_status r) (refusal_line r) status old new written written_new → KeepsFiles words status left left_new faults faults_new old new
-  refusal-keeps {X} r written written_new kept said = record {
+  refusal-keeps X r written written_new kept said = record {
     other_left = kept.other_left;
     other_faults = kept.other_faults;
     read_fault = λ e. kept.counted (failed r (sym (said.said (λ t. absurd (omega (arith, e, t)))).0 ∙ e));

@@ -56,9 +56,9 @@ module _ (right : RunsAreRight) (room : RoomIsQuiet) (words : List (List ℕ)) (
     complete = room g ask.args ask.order ask.limits asks.graph.spelled.accepted arguments limits;
     whole = λ e. by-whole e (written (λ t. not-ten _ _ (sym e ∙ t)));
     first_lines = λ e. ⊎_elim (λ a. absurd (not-eleven _ _ (sym a.0 ∙ e)))
-    (⊎_elim (λ b. absurd (omega (arith, e, b.0))) (λ c. c.1)) (written (λ t. absurd (omega (arith, e, t))));
+        (⊎_elim (λ b. absurd (omega (arith, e, b.0))) (λ c. c.1)) (written (λ t. absurd (omega (arith, e, t))));
     fault = λ e. ⊎_elim (λ a. absurd (not-three _ _ (sym a.0 ∙ e)))
-    (⊎_elim (λ b. b.1) (λ c. absurd (omega (arith, e, c.0)))) (written (λ t. absurd (omega (arith, e, t))));
+        (⊎_elim (λ b. b.1) (λ c. absurd (omega (arith, e, c.0)))) (written (λ t. absurd (omega (arith, e, t))));
     front = λ e. let b = d.broken e in fronts g ask old new b.0 b.1 (told (asked words) left g ask asks b.0 b.1 b.2) b.3;
     no_other = which (status == 10) refl;
   }

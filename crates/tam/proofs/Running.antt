@@ -64,6 +64,10 @@ quiet-status how ks missing code q m none some = go ks m ∙ ap (λ h. status_by
     go [] e = none e
     go (k ∷ ls) e = some (λ z. absurd (omega (arith, e, z)))
 
+-- one end is told
+some-is : (a b : End) → ◌≡◌ {A = Option End} (Some a) (Some b) → a ≡ b
+some-is a b e = cc
+
 -- the status of a run that stopped
 pub stop-status : (how : End) (ks : List ℕ) (stop : Stop) (code : ℕ) → Some how ≡ end_of_stop stop → IfSome (end_of_stop stop) (λ h. code ≡ status_by h [])
     → code ≡ status_by how ks
@@ -73,9 +77,6 @@ stop-status how ks (FramesFull n) code e c = c ∙ ap (λ h. status_by h ks) (sy
 stop-status how ks (CellsFull u l) code e c = c ∙ ap (λ h. status_by h ks) (sym (some-is how (Cells_full u l) e))
 stop-status how ks (BudgetSpent n) code e c = c ∙ ap (λ h. status_by h ks) (sym (some-is how (Budget_spent n) e))
 stop-status how ks NoMemory code e c = absurd (cc)
-
-some-is : (a b : End) → ◌≡◌ {A = Option End} (Some a) (Some b) → a ≡ b
-some-is a b e = cc
 
 -- one word for each param of `main`
 pub are-arguments : (g : Graph) (args : List ℕ) → length args ≡ params_of (code_of g g.main) → ((k w : ℕ) → slice_get args k ≡ Some w → w < 2 ^ 32)
@@ -108,10 +109,18 @@ module _ (ask : Request) (bytes : List ℕ) (g : Graph) (asks : AsksGraph ask by
   out-done mid faults_mid status (front, rest, is, taken) same s =
       let text = flat_map result_line front ++ no_memory_line in
       record {
-        said = λ n. (text, subst (λ c. AnswerTo ask bytes c text) (sym (s.said n).0) (ran_out front rest asks is),
-        Appends-trans old mid new (flat_map result_line front) no_memory_line taken (s.said n).1);
+        said = λ n. (
+          text,
+          subst (λ c. AnswerTo ask bytes c text) (sym (s.said n).0) (ran_out front rest asks is),
+          Appends-trans old mid new (flat_map result_line front) no_memory_line taken (s.said n).1,
+        );
         none = λ n. s.none n ∙ same;
-        broken = λ e. (11, text, ran_out front rest asks is, front-more old mid new (flat_map result_line front) no_memory_line [] text taken (s.broken e)
-        (ap (λ l. flat_map result_line front ++ l) (sym (append-nil no_memory_line))));
+        broken = λ e. (
+          11,
+          text,
+          ran_out front rest asks is,
+          front-more old mid new (flat_map result_line front) no_memory_line [] text taken (s.broken e)
+              (ap (λ l. flat_map result_line front ++ l) (sym (append-nil no_memory_line))),
+        );
         fault = λ e. subst (λ f. CountsFault f faults_new) same (s.fault e);
       }

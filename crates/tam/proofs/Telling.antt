@@ -85,11 +85,11 @@ module _ (words : Asked) (left : Files) (g : Graph) (ask : Request) (asks : Asks
 
   -- nothing is untold
   seen : (job : JobParts) → words ≡ Job job → IsUntold job left → ⊥
-  seen job e u = not-untold asks.job left asks.order asks.bytes asks.ordered asks.left.told (subst (λ j. IsUntold j left) (same-job job e) u)
+  seen job e u = not-untold asks.job left asks.order asks.bytes asks.ordered asks.content.told (subst (λ j. IsUntold j left) (same-job job e) u)
 
   -- the bytes are those of the file
   same-bytes : (job : JobParts) (b : List ℕ) → words ≡ Job job → input_of job left ≡ Some b → b ≡ asks.bytes
-  same-bytes job b e told = told-once b asks.bytes (sym told ∙ ap (λ j. input_of j left) (same-job job e) ∙ asks.left.told)
+  same-bytes job b e told = told-once b asks.bytes (sym told ∙ ap (λ j. input_of j left) (same-job job e) ∙ asks.content.told)
 
   -- before the file is looked into
   told-early : (r : Refusal) → Refuses words left r → Told ask g (refusal_status r) (refusal_line r)
@@ -107,7 +107,7 @@ module _ (words : Asked) (left : Files) (g : Graph) (ask : Request) (asks : Asks
   told-early r (too_long {job = j} {bytes = b} e is told more) =
       let same = same-bytes j b e told in
       let few : length b ≤ most_bytes j.mode =
-      subst (λ x. length x ≤ most_bytes j.mode) (sym same) (subst (λ k. length asks.bytes ≤ most_bytes k.mode) (sym (same-job j e)) asks.left.few) in
+      subst (λ x. length x ≤ most_bytes j.mode) (sym same) (subst (λ k. length asks.bytes ≤ most_bytes k.mode) (sym (same-job j e)) asks.content.few) in
       absurd (omega (arith, more, few))
   told-early r wanted = ended [] (run_of ask g).printed refl
   told-early r (untold {job = j} e u) = absurd (seen j e u)

@@ -56,7 +56,7 @@ pub record AsksRun (words : Asked) (left : Files) (g : Graph) (ask : Request) : 
   pub same : ask ≡ request_of job order
   pub ordered : IsOrder job left order
   pub bytes : List ℕ
-  pub left : IsLeft (input_of job left) (most_bytes job.mode) bytes
+  pub content : IsLeft (input_of job left) (most_bytes job.mode) bytes
   pub graph : AsksGraph ask bytes g
 
 -- the lines of first results of a run, and then that memory was wanted, were taken in some way

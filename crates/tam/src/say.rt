@@ -25,7 +25,7 @@ pub fn say_no_memory<K: Sink>(out: &mut K) -> Status
 }
 
 /// Writes a text that was made, if it was, and answers its status; else says that memory was wanted.
-pub fn say_made<E, K: Sink>(made: Result<Vec<u8>, E>, code: u8, out: &mut K) -> Status
+pub fn say_made<E: Drop, K: Sink>(made: Result<Vec<u8>, E>, code: u8, out: &mut K) -> Status
     requires { code ≢ 10 }
     ensures said { MatchResult made
         (λ text. IsSaid code text.items result.code (K.taken out.old) (K.taken out.new) (K.faults out.old) (K.faults out.new))

@@ -19,8 +19,7 @@ const DOUBLE: &[u8] =
 const OUTSIDE: &[u8] =
     b"dg 1\ncode main\ni = param 0\nn = const 4\nA:1 = alloc n\nstore A i n\nv = fetch A i\nresult 0 v\nend\n";
 
-const LARGE: &[u8] =
-    b"dg 1\ncode main\nn = param 0\nA:1 = alloc n\nr = seq n A\nresult 0 r\nend\n";
+const LARGE: &[u8] = b"dg 1\ncode main\nn = param 0\nA:1 = alloc n\nr = seq n A\nresult 0 r\nend\n";
 
 const MISSING: &[u8] =
     b"dg 1\ncode main\nn = const 1\nA:1 = alloc n\nz = const 0\nv = fetch A z\nx = param 0\ny = add x n\nresult 0 v\nresult 1 y\nend\n";

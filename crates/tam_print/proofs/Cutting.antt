@@ -1,5 +1,6 @@
 -- Lines of tokens are cut into these tokens again, and their bytes are good.
-use Rattle.std.proofs.Common.{◌≡◌, ℕ, ◌≤◌, List, [], ◌∷◌, ◌++◌, Bool, true, false, refl, sym, ap, ◌∙◌, arith, true≢false, ◌==◌, ◌&&◌, nat_le, map, filter, flat_map}
+use Rattle.std.proofs.Common.{◌≡◌, ℕ, ◌≤◌, List, [], ◌∷◌, ◌++◌, Bool, true, false, refl, sym, ap, ◌∙◌, arith, true≢false, ◌==◌, ◌&&◌, nat_le, map, filter}
+use Rattle.std.proofs.Common.{flat_map}
 use Rattle.std.proofs.Common.{append_assoc}
 use Rattle.std.specs.List.{onto_first, slice_split}
 use Rattle.std.proofs.lemmas.Bool.{le-leb, leb-true}

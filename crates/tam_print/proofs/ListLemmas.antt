@@ -1,5 +1,6 @@
 -- Lists at places: one more list behind, one list longer; and the nodes of each block, one node after the other.
-use Rattle.std.proofs.Common.{◌≤◌, ◌+◌, flat_map, drop, get_or, append_assoc, add-one, ◌≡◌, ◌≢◌, ◌∙◌, ℕ, zero, suc, ◌<◌, ◌==◌, Bool, true, false, List, [], ◌∷◌, ◌++◌, length, filter, slice_set, refl, sym, ap, arith}
+use Rattle.std.proofs.Common.{◌≤◌, ◌+◌, flat_map, drop, get_or, append_assoc, add-one, ◌≡◌, ◌≢◌, ◌∙◌, ℕ, zero, suc, ◌<◌, ◌==◌, Bool, true, false, List, []}
+use Rattle.std.proofs.Common.{◌∷◌, ◌++◌, length, filter, slice_set, refl, sym, ap, arith}
 use Rattle.std.specs.Prelude.{Some, slice_get}
 use Rattle.std.specs.declared.vec.Vec.{Vec}
 use Rattle.std.specs.declared.alloc.Global.{Global}

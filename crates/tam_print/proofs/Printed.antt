@@ -1,5 +1,6 @@
 -- The tokens of a node's line: their texts are words, and spellings of the tokens.
-use Rattle.std.proofs.Common.{◌≡◌, ℕ, zero, suc, ◌^◌, ◌<◌, ◌≤◌, List, [], ◌∷◌, ◌++◌, Bool, true, false, refl, sym, ap, arith, true≢false, ◌&&◌, nat_lt, nat_le, length}
+use Rattle.std.proofs.Common.{◌≡◌, ℕ, zero, suc, ◌^◌, ◌<◌, ◌≤◌, List, [], ◌∷◌, ◌++◌, Bool, true, false, refl, sym, ap, arith, true≢false, ◌&&◌, nat_lt}
+use Rattle.std.proofs.Common.{nat_le, length}
 use Rattle.std.proofs.Common.{slice_get, Some, inl, inr}
 use Rattle.std.specs.Prelude.{codes, decimal}
 use Rattle.std.proofs.lemmas.Bool.{leb-true}
@@ -91,7 +92,7 @@ right-name : (n : Node) → is_named_right n ≡ true → is_named n.kind ≡ tr
 right-name n h e = name-word (or_bytes n.name) (rw (is_named_right, e) at h)
 
 -- a number within the list has its element
-pub there : {X : Type 0} (xs : List X) (x : ℕ) → x < length xs → (y : X) × (slice_get xs x ≡ Some y)
+there : {X : Type 0} (xs : List X) (x : ℕ) → x < length xs → (y : X) × (slice_get xs x ≡ Some y)
 there xs x l = elim (slice_get_cases xs x).1 [ inl a ↦ (a.0, a.2) | inr b ↦ absurd (let h = b.0 in omega (arith, h)) ]
 
 module _ (g : Graph) (text : IsOfText g) (c : Code) (code : IsCodeOfText (length g.codes) c) where
@@ -196,7 +197,9 @@ module _ (g : Graph) (text : IsOfText g) (c : Code) (code : IsCodeOfText (length
   node-right x l = go (is_named (kind_at c x)) refl
     where
       rest : AreRight (tokens g c (kind_at c x))
-      rest = tokens-right (kind_at c x) (all-in (λ x. is_line (length g.codes) c (kind_at c x)) (node_numbers c) code.written.lines x (below-in x (length c.nodes) l))
+      rest =
+          tokens-right (kind_at c x)
+          (all-in (λ x. is_line (length g.codes) c (kind_at c x)) (node_numbers c) code.written.lines x (below-in x (length c.nodes) l))
 
       go : (t : Bool) → is_named (kind_at c x) ≡ t → all_of is_right (node_line g c x) ≡ true
       go false e = rw (node_line, e) rest.all

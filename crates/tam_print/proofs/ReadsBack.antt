@@ -3,11 +3,11 @@ use Rattle.std.proofs.Common.{◌≡◌, ℕ, ◌<◌, List, [], ◌∷◌, Bool
 use Rattle.std.specs.Prelude.{codes}
 use Rattle.std.proofs.lemmas.Option.{slice_get_within}
 use Rattle.tam_word.specs.Lists.{all_of}
+use Rattle.tam_word.proofs.Tests.{both-true, true-both}
+use Rattle.tam_word.proofs.Members.{In, in-all, in-map, in-append, in-flat_map, flat_map-in, in-below, in-get}
 use Rattle.tam_graph.specs.declared.kind.Kind.{Kind}
 use Rattle.tam_graph.specs.declared.kind.Kind.TheVariants.{Param, Const, Op as Operate, Seq, Call, Arg, Ret, Give, Alloc, Fetch, Store, Cond, Switch, Merge}
 use Rattle.tam_graph.specs.declared.kind.Kind.TheVariants.{Enter, Leave}
-use Rattle.tam_word.proofs.Tests.{both-true, true-both}
-use Rattle.tam_word.proofs.Members.{In, in-all, in-map, in-append, in-flat_map, flat_map-in, in-below, in-get}
 use Rattle.tam_graph.specs.Graphs.{Code, Graph, code_of, or_code, kind_at}
 use Rattle.tam_text.specs.Lines.{is_some_of}
 use Rattle.tam_graph.specs.Written.{Visit, AtNode, AtElse, AtEnd, visits, node_visited}

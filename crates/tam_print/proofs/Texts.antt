@@ -121,7 +121,8 @@ code-text g c =
     let lines = map (visit_line g c) (visits (length c.owners) c 0) in
     flat_map-append line_text ((Bytes (codes "code") ∷ Bytes c.name ∷ []) ∷ lines) (end_line ∷ [])
     ∙ append_assoc (line_text (Bytes (codes "code") ∷ Bytes c.name ∷ [])) (flat_map line_text lines) (codes "end\n")
-    ∙ ap (λ l. line_text (Bytes (codes "code") ∷ Bytes c.name ∷ []) ++ (l ++ codes "end\n")) (flat_map-map line_text (visit_line g c) (visits (length c.owners) c 0))
+    ∙ ap (λ l. line_text (Bytes (codes "code") ∷ Bytes c.name ∷ []) ++ (l ++ codes "end\n"))
+    (flat_map-map line_text (visit_line g c) (visits (length c.owners) c 0))
 
 -- a code's lines, one behind the other
 pub code-added : (g : Graph) (c : Code) (name : List ℕ) (owners : List (Option ℕ)) → name ≡ c.name → owners ≡ c.owners → (old first body : List ℕ)

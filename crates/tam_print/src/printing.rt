@@ -1,6 +1,5 @@
 // The canonical text of a graph.
-ghost use Rattle.std.specs.Prelude.{◌≡◌, ◌++◌, ◌<◌, length, IfOk, OnOk};
-ghost use Rattle.tam_graph.specs.Graphs.{code_of};
+ghost use Rattle.std.specs.Prelude.{◌≡◌, ◌++◌, length, IfOk, OnOk};
 ghost use Rattle.tam_graph.specs.Texts.{canonical};
 ghost use Rattle.tam_graph.specs.Reading.{IsCodeOfText, Reads};
 ghost use Rattle.tam_print.specs.PrintedLines.{code_text};

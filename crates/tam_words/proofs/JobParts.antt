@@ -1,5 +1,6 @@
 -- What a job that words ask for is like: its limits are in their ranges, and its arguments are words.
-use Rattle.std.proofs.Common.{◌≡◌, ◌<◌, ◌≤◌, ◌^◌, ℕ, zero, suc, Bool, true, false, not, ◌&&◌, ◌==◌, List, [], ◌∷◌, refl, ap, subst, length, slice_get, nat_lt, nat_le, ◌-◌, ◌%◌, arith, leb-true}
+use Rattle.std.proofs.Common.{◌≡◌, ◌<◌, ◌≤◌, ◌^◌, ℕ, zero, suc, Bool, true, false, not, ◌&&◌, ◌==◌, List, [], ◌∷◌, refl, ap, subst, length}
+use Rattle.std.proofs.Common.{slice_get, nat_lt, nat_le, ◌-◌, ◌%◌, arith, leb-true}
 use Rattle.std.specs.Prelude.{Option, None, Some, Result, Ok, Err, unwrap_or}
 use Rattle.std.specs.List.{slice_split}
 use Rattle.tam_word.specs.Numbers.{word_of, decimal_up_to, negative_of, hexadecimal_of, some_if, are_digits, number_behind}
@@ -32,7 +33,8 @@ negative-below (Some n) w e = let s = some-is ((2 ^ 32 - n) % 2 ^ 32) w e in ome
 hexadecimal-below : (bs : List ℕ) (w : ℕ) → hexadecimal_of bs ≡ Some w → w < 2 ^ 32
 hexadecimal-below bs w e = go (nat_lt 0 (length bs) && (nat_lt (length bs) 9 && are_digits 16 bs)) refl e
   where
-    go : (t : Bool) → (nat_lt 0 (length bs) && (nat_lt (length bs) 9 && are_digits 16 bs)) ≡ t → some_if t (number_behind 16 0 bs) ≡ Some w → w < 2 ^ 32
+    go : (t : Bool) → (nat_lt 0 (length bs) && (nat_lt (length bs) 9 && are_digits 16 bs)) ≡ t
+        → some_if t (number_behind 16 0 bs) ≡ Some w → w < 2 ^ 32
     go false t e = absurd (cc)
     go true t e =
         let a = both-true (nat_lt 0 (length bs)) _ t in
@@ -115,7 +117,8 @@ limit-in-range usual least most (Some text) n low high small e = go (decimal_up_
 -- ---- jobs
 
 -- where a job is asked for, there is the value that it is asked with
-with-value : {X : Type 0} (r : Result X UsageCause) (ask : X → Asked) (job : JobParts) → asks_with r ask ≡ Job job → (x : X) × (r ≡ Ok x) × (ask x ≡ Job job)
+with-value : {X : Type 0} (r : Result X UsageCause) (ask : X → Asked) (job : JobParts) → asks_with r ask ≡ Job job
+    → (x : X) × (r ≡ Ok x) × (ask x ≡ Job job)
 with-value (Ok x) ask job e = (x, refl, e)
 with-value (Err cause) ask job e = absurd (cc)
 

@@ -63,16 +63,20 @@ word-below (b ∷ c ∷ bs) w e = signed (b == 45) refl
 abbrev AreWords : List ℕ → Type 0
 AreWords ws = (k w : ℕ) → slice_get ws k ≡ Some w → w < 2 ^ 32
 
+-- the empty list has words alone
 none-there : AreWords []
 none-there k w e = absurd (cc)
 
+-- one word more
 one-there : (v : ℕ) (ws : List ℕ) → v < 2 ^ 32 → AreWords ws → AreWords (v ∷ ws)
 one-there v ws l h zero w e = subst (λ n. n < 2 ^ 32) (some-is v w e) l
 one-there v ws l h (suc k) w e = h k w e
 
+-- some list is one list
 some-list : (a b : List ℕ) → ◌≡◌ {A = Option (List ℕ)} (Some a) (Some b) → a ≡ b
 some-list a b e = cc
 
+-- the words of texts are words
 all-below : (texts : List (List ℕ)) (ws : List ℕ) → all_words texts ≡ Some ws → AreWords ws
 all-below [] ws e = subst AreWords (some-list [] ws e) none-there
 all-below (t ∷ ts) ws e = first (word_of t) refl (all-below ts)
@@ -130,6 +134,7 @@ some-there cause (Some y) x e = ap Some (ok-is y x e)
     ok-is : {X : Type 0} (a b : X) → ◌≡◌ {A = Result X UsageCause} (Ok a) (Ok b) → a ≡ b
     ok-is a b e = cc
 
+-- some limits are the same limits
 limits-is : (a b : Limits) → ◌≡◌ {A = Result Limits UsageCause} (Ok a) (Ok b) → a ≡ b
 limits-is a b e = cc
 
@@ -167,6 +172,7 @@ pub record IsRightJob (job : JobParts) : Type 0 where
   pub limits_in_range : AreLimits job.limits
   pub args_are_words : (k w : ℕ) → slice_get job.args k ≡ Some w → w < 2 ^ 32
 
+-- a job has one record of parts
 parts-are : (a b : JobParts) → Job a ≡ Job b → a ≡ b
 parts-are a b e = cc
 

@@ -12,6 +12,7 @@ few_words [] h = refl
 few_words (v ∷ []) h = refl
 few_words (v ∷ w ∷ more) h = absurd (omega (arith, h))
 
+-- some number is one number
 some-is : (a b : ℕ) → ◌≡◌ {A = Option ℕ} (Some a) (Some b) → a ≡ b
 some-is a b e = cc
 

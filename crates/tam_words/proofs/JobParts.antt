@@ -1,5 +1,6 @@
 -- What a job that words ask for is like: its limits are in their ranges, and its arguments are words.
-use Rattle.std.proofs.Common.{◌≡◌, ◌<◌, ◌≤◌, ◌^◌, ℕ, zero, suc, Bool, true, false, not, ◌&&◌, ◌==◌, List, [], ◌∷◌, refl, ap, subst, length, slice_get, nat_lt, nat_le, ◌-◌, ◌%◌, arith, leb-true}
+use Rattle.std.proofs.Common.{◌≡◌, ◌<◌, ◌≤◌, ◌^◌, ℕ, zero, suc, Bool, true, false, not, ◌&&◌, ◌==◌, List, [], ◌∷◌, refl, ap, subst, length}
+use Rattle.std.proofs.Common.{slice_get, nat_lt, nat_le, ◌-◌, ◌%◌, arith, leb-true}
 use Rattle.std.specs.Prelude.{Option, None, Some, Result, Ok, Err, unwrap_or}
 use Rattle.std.specs.List.{slice_split}
 use Rattle.tam_word.specs.Numbers.{word_of, decimal_up_to, negative_of, hexadecimal_of, some_if, are_digits, number_behind}
@@ -32,7 +33,8 @@ negative-below (Some n) w e = let s = some-is ((2 ^ 32 - n) % 2 ^ 32) w e in ome
 hexadecimal-below : (bs : List ℕ) (w : ℕ) → hexadecimal_of bs ≡ Some w → w < 2 ^ 32
 hexadecimal-below bs w e = go (nat_lt 0 (length bs) && (nat_lt (length bs) 9 && are_digits 16 bs)) refl e
   where
-    go : (t : Bool) → (nat_lt 0 (length bs) && (nat_lt (length bs) 9 && are_digits 16 bs)) ≡ t → some_if t (number_behind 16 0 bs) ≡ Some w → w < 2 ^ 32
+    go : (t : Bool) → (nat_lt 0 (length bs) && (nat_lt (length bs) 9 && are_digits 16 bs)) ≡ t
+        → some_if t (number_behind 16 0 bs) ≡ Some w → w < 2 ^ 32
     go false t e = absurd (cc)
     go true t e =
         let a = both-true (nat_lt 0 (length bs)) _ t in
@@ -61,16 +63,20 @@ word-below (b ∷ c ∷ bs) w e = signed (b == 45) refl
 abbrev AreWords : List ℕ → Type 0
 AreWords ws = (k w : ℕ) → slice_get ws k ≡ Some w → w < 2 ^ 32
 
+-- the empty list has words alone
 none-there : AreWords []
 none-there k w e = absurd (cc)
 
+-- one word more
 one-there : (v : ℕ) (ws : List ℕ) → v < 2 ^ 32 → AreWords ws → AreWords (v ∷ ws)
 one-there v ws l h zero w e = subst (λ n. n < 2 ^ 32) (some-is v w e) l
 one-there v ws l h (suc k) w e = h k w e
 
+-- some list is one list
 some-list : (a b : List ℕ) → ◌≡◌ {A = Option (List ℕ)} (Some a) (Some b) → a ≡ b
 some-list a b e = cc
 
+-- the words of texts are words
 all-below : (texts : List (List ℕ)) (ws : List ℕ) → all_words texts ≡ Some ws → AreWords ws
 all-below [] ws e = subst AreWords (some-list [] ws e) none-there
 all-below (t ∷ ts) ws e = first (word_of t) refl (all-below ts)
@@ -115,7 +121,8 @@ limit-in-range usual least most (Some text) n low high small e = go (decimal_up_
 -- ---- jobs
 
 -- where a job is asked for, there is the value that it is asked with
-with-value : {X : Type 0} (r : Result X UsageCause) (ask : X → Asked) (job : JobParts) → asks_with r ask ≡ Job job → (x : X) × (r ≡ Ok x) × (ask x ≡ Job job)
+with-value : {X : Type 0} (r : Result X UsageCause) (ask : X → Asked) (job : JobParts) → asks_with r ask ≡ Job job
+    → (x : X) × (r ≡ Ok x) × (ask x ≡ Job job)
 with-value (Ok x) ask job e = (x, refl, e)
 with-value (Err cause) ask job e = absurd (cc)
 
@@ -127,6 +134,7 @@ some-there cause (Some y) x e = ap Some (ok-is y x e)
     ok-is : {X : Type 0} (a b : X) → ◌≡◌ {A = Result X UsageCause} (Ok a) (Ok b) → a ≡ b
     ok-is a b e = cc
 
+-- some limits are the same limits
 limits-is : (a b : Limits) → ◌≡◌ {A = Result Limits UsageCause} (Ok a) (Ok b) → a ≡ b
 limits-is a b e = cc
 
@@ -164,6 +172,7 @@ pub record IsRightJob (job : JobParts) : Type 0 where
   pub limits_in_range : AreLimits job.limits
   pub args_are_words : (k w : ℕ) → slice_get job.args k ≡ Some w → w < 2 ^ 32
 
+-- a job has one record of parts
 parts-are : (a b : JobParts) → Job a ≡ Job b → a ≡ b
 parts-are a b e = cc
 

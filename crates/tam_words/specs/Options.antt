@@ -1,6 +1,7 @@
 -- The options among the words: which words are options, and the value that each option has.
 -- The rule in words: docs/FORMATS.md, "Command line".
-use Rattle.std.specs.Prelude.{ℕ, Bool, true, false, not, ◌==◌, ◌&&◌, nat_le, List, [], ◌∷◌, drop, length, Option, Some, None, is_some, Ok, Err, Result}
+use Rattle.std.specs.Prelude.{ℕ, Bool, true, false, not, ◌==◌, ◌&&◌, nat_le, List, [], ◌∷◌, drop, length, Option, Some, None, is_some, Ok}
+use Rattle.std.specs.Prelude.{Err, Result}
 use Rattle.std.specs.List.{slice_split, starts_with, filter_map, list_all, list_any}
 use Rattle.std.specs.Prelude.{nat_eq}
 use Rattle.tam_word.specs.Numbers.{some_if, decimal_up_to, word_of}

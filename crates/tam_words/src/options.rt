@@ -2,7 +2,7 @@
 ghost use Rattle.std.specs.Prelude.{◌≡◌, map, string_bytes, IfSome, IfNone, Some, None, is_some};
 ghost use Rattle.std.specs.List.{list_all};
 ghost use Rattle.tam_words.specs.Names.{settings};
-ghost use Rattle.tam_words.specs.Options.{value_in, values_of, given, is_option, comes_once, are_options};
+ghost use Rattle.tam_words.specs.Options.{value_in, given, is_option, comes_once, are_options};
 
 use crate::setting::{SETTINGS, Setting};
 

@@ -82,16 +82,24 @@ fn wrong_words_have_their_cause(rt: HostRuntime) -> Result<(), Fail> {
     Ok(())
 }
 
+// 1,048,576 bytes, and one more.
 #[test]
-fn a_long_order_is_refused(rt: HostRuntime) -> Result<(), Fail> {
-    let mut order = String::from_str(rt.alloc(), "--order=r")?;
-    for _ in 0..524_288 {
-        order.push_str(",r")?;
+fn an_order_has_a_greatest_length(rt: HostRuntime) -> Result<(), Fail> {
+    let too_long = WordsError::Usage(UsageCause::Order);
+    let cases: [(u32, &str, Option<WordsError>); 2] = [
+        (524_287, "\n", None),
+        (524_288, "", Some(too_long)),
+    ];
+    for (more, end, error) in cases {
+        let mut order = String::from_str(rt.alloc(), "--order=r")?;
+        for _ in 0..more {
+            order.push_str(",r")?;
+        }
+        order.push_str(end)?;
+        let mut words = texts(&rt, &["graph", "f"])?;
+        words.push(order)?;
+        assert_eq!(rt; read_words(rt.alloc(), &words).err(), error, "at {more}");
     }
-    let mut words = texts(&rt, &["graph", "f"])?;
-    words.push(order)?;
-    let error = read_words(rt.alloc(), &words).err();
-    assert_eq!(rt; error, Some(WordsError::Usage(UsageCause::Order)));
     Ok(())
 }
 

@@ -12,12 +12,16 @@ use Rattle.tam_msgs.specs.declared.stop.Stop.{Stop}
 use Rattle.tam_msgs.specs.declared.stop.Stop.TheVariants.{DoubleWrite, OutOfRange, FramesFull, CellsFull, BudgetSpent, NoMemory}
 use Rattle.tam_msgs.specs.Runs.{Report, End, Quiet, Double_write, Out_of_range, Frames_full, Cells_full, Budget_spent, Wild, Trap, result_line, text_of, missing_of}
 use Rattle.tam_run.specs.Ends.{end_of_stop}
-use Rattle.tam_run.specs.Writing.{AppendsFirstLines}
+use Rattle.tam_run.specs.Writing.{WritesStopped, AppendsFirstLines}
 use Rattle.tam_run.proofs.Fronts.{front-more}
 use Rattle.tam_input.specs.Inputs.{Request}
 use Rattle.tam_input.specs.Refusing.{no_memory_line}
 use Rattle.tam.specs.Answers.{AnswerTo, AsksGraph, ran, ran_out, run_of, status_by, status_of}
 use Rattle.tam.specs.Headline.{IsSaid, IsDone}
+use Rattle.tam.specs.Stopping.{AnswersStop}
+use Rattle.tam_eval.specs.GraphRuns.{graph_told}
+use Rattle.tam_msgs.specs.declared.item.Item.{Item}
+use Rattle.tam_msgs.specs.declared.limits.Limits.{Limits}
 
 -- no end has the status of a write fault
 pub not-ten : (how : End) (ks : List ℕ) → status_by how ks ≢ 10
@@ -79,9 +83,14 @@ stop-status how ks (BudgetSpent n) code e c = c ∙ ap (λ h. status_by h ks) (s
 stop-status how ks NoMemory code e c = absurd (cc)
 
 -- one word for each param of `main`
-pub are-arguments : (g : Graph) (args : List ℕ) → length args ≡ params_of (code_of g g.main) → ((k w : ℕ) → slice_get args k ≡ Some w → w < 2 ^ 32)
-    → AreArguments g args
-are-arguments g args one words = record { one_each = one; words = words }
+pub one-each : (g : Graph) (args same : List ℕ) (main params : ℕ) → same ≡ args → main ≡ g.main → params ≡ params_of (code_of g main)
+    → length same ≡ params → length args ≡ params_of (code_of g g.main)
+one-each g args same main params e m p l = ap length (sym e) ∙ l ∙ p ∙ ap (λ n. params_of (code_of g n)) m
+
+-- a run on the same arguments within the same limits is the same run
+pub same-run : (g : Graph) (args given : List ℕ) (order : List Item) (limits ls : Limits) → given ≡ args → ls ≡ limits
+    → graph_told g given order ls ≡ graph_told g args order limits
+same-run g args given order limits ls e f = ap (λ a. graph_told g a order ls) e ∙ ap (graph_told g args order) f
 
 module _ (ask : Request) (bytes : List ℕ) (g : Graph) (asks : AsksGraph ask bytes g) (old new : Option (List ℕ)) (faults faults_new : ℕ) where
   -- a run was written whole
@@ -124,3 +133,22 @@ module _ (ask : Request) (bytes : List ℕ) (g : Graph) (asks : AsksGraph ask by
         );
         fault = λ e. subst (λ f. CountsFault f faults_new) same (s.fault e);
       }
+
+  -- an end was answered
+  ended : (stop : Stop) (mid : Option (List ℕ)) (faults_mid status : ℕ) → Appends old mid (text_of (run_of ask g)) × (Some (run_of ask g).how ≡ end_of_stop stop)
+      → faults_mid ≡ faults → IfSome (end_of_stop stop) (λ how. status ≡ status_by how []) × (new ≡ mid) × (faults_new ≡ faults_mid)
+      → IsDone (AnswerTo ask bytes) status old new faults faults_new
+  ended stop mid faults_mid status (taken, end) same (code, kept, count) =
+      whole-done status
+      (stop-status (run_of ask g).how (missing_of (run_of ask g).how (run_of ask g).results (run_of ask g).printed) stop status end code)
+      (subst (λ n. Appends old n (text_of (run_of ask g))) (sym kept) taken) (count ∙ same)
+
+  -- a run stopped, and its end was answered
+  pub stopped-done : (stop : Stop) (mid : Option (List ℕ)) (faults_mid status : ℕ) → WritesStopped (run_of ask g) old mid stop → faults_mid ≡ faults
+      → AnswersStop stop status mid new faults_mid faults_new → IsDone (AnswerTo ask bytes) status old new faults faults_new
+  stopped-done NoMemory mid faults_mid status w same s = out-done mid faults_mid status w same s
+  stopped-done (DoubleWrite x y) mid faults_mid status w same s = ended (DoubleWrite x y) mid faults_mid status w same s
+  stopped-done (OutOfRange x i l) mid faults_mid status w same s = ended (OutOfRange x i l) mid faults_mid status w same s
+  stopped-done (FramesFull n) mid faults_mid status w same s = ended (FramesFull n) mid faults_mid status w same s
+  stopped-done (CellsFull u l) mid faults_mid status w same s = ended (CellsFull u l) mid faults_mid status w same s
+  stopped-done (BudgetSpent n) mid faults_mid status w same s = ended (BudgetSpent n) mid faults_mid status w same s

@@ -1,6 +1,8 @@
 -- What was done once a text was said.
 use Rattle.std.proofs.Common.{◌≡◌, ◌≢◌, ℕ, List, sym, subst}
-use Rattle.std.specs.Prelude.{Option}
+use Rattle.std.specs.Prelude.{Option, Result, Ok, Err, Vec, IfOk, MatchResult}
+use Rattle.std.specs.declared.alloc.Global.{Global}
+use Rattle.tam_input.specs.Refusing.{no_memory_line}
 use Rattle.tam.specs.Headline.{IsSaid, IsDone}
 
 module _ (old new : Option (List ℕ)) (faults faults_new : ℕ) where
@@ -23,3 +25,17 @@ module _ (old new : Option (List ℕ)) (faults faults_new : ℕ) where
     broken = λ e. let b = d.broken e in (b.0, b.1, more b.0 b.1 b.2, b.3);
     fault = d.fault;
   }
+
+  -- a text that was made was said, or that memory was wanted
+  pub made-done : {E : Type 0} (Says : ℕ → List ℕ → Type 0) (meant status : ℕ) (made : Result (Vec ℕ Global) E) (text : List ℕ) → Says meant text
+      → Says 11 no_memory_line → IfOk made (λ t. t.items ≡ text)
+      → MatchResult made (λ t. IsSaid meant t.items status old new faults faults_new) (λ e. IsSaid 11 no_memory_line status old new faults faults_new)
+      → IsDone Says status old new faults faults_new
+  made-done Says meant status (Ok t) text is wanted e s = said-done Says meant status text is (subst (λ x. IsSaid meant x status old new faults faults_new) e s)
+  made-done Says meant status (Err e) text is wanted m s = said-done Says 11 status no_memory_line wanted s
+
+-- a text that was said by another name
+pub said-is : (meant other status : ℕ) (text more : List ℕ) (old new : Option (List ℕ)) (faults faults_new : ℕ) → other ≡ meant → more ≡ text
+    → IsSaid other more status old new faults faults_new → IsSaid meant text status old new faults faults_new
+said-is meant other status text more old new faults faults_new e f s =
+    subst (λ m. IsSaid m text status old new faults faults_new) e (subst (λ t. IsSaid other t status old new faults faults_new) f s)

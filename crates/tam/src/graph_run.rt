@@ -1,10 +1,10 @@
 // The run of an accepted graph.
-ghost use Rattle.std.specs.Prelude.{◌≡◌, ◌≢◌, [], ℕ, List, IfSome};
-ghost use Rattle.tam_run.specs.Ends.{end_of_stop};
+ghost use Rattle.std.specs.Prelude.{◌≡◌, ◌≢◌, ℕ, List};
 ghost use Rattle.tam_words.specs.declared.mode.Mode.TheVariants.{Graph};
 ghost use Rattle.tam_input.specs.Inputs.{request_of};
-ghost use Rattle.tam.specs.Answers.{AnswerTo, Spells, status_by};
+ghost use Rattle.tam.specs.Answers.{AnswerTo, Spells};
 ghost use Rattle.tam.specs.Headline.{IsDone};
+ghost use Rattle.tam.specs.Stopping.{AnswersStop};
 
 use crate::say::{say, say_no_memory};
 use crate::status::Status;
@@ -33,8 +33,7 @@ pub fn run_graph<K: Sink>(
     }
     match run(alloc, graph, args, order, job.limits(), out) {
         Outcome::Quiet { missing } => quiet_status(missing),
-        Outcome::Stopped(Stop::NoMemory) => say_no_memory(out),
-        Outcome::Stopped(stop) => stop_status(stop),
+        Outcome::Stopped(stop) => answer_stop(stop, out),
         Outcome::WriteFault => Status { code: 10 },
     }
 }
@@ -51,17 +50,16 @@ fn quiet_status(missing: u32) -> Status
     }
 }
 
-// The status of a run that stopped; that of want of memory is 11.
-fn stop_status(stop: Stop) -> Status
-    ensures value { IfSome (end_of_stop stop) (λ how. result.code ≡ status_by how []) }
+// Answers a run that stopped.
+fn answer_stop<K: Sink>(stop: Stop, out: &mut K) -> Status
+    ensures stopped { AnswersStop stop result.code (K.taken out.old) (K.taken out.new) (K.faults out.old) (K.faults out.new) }
 {
-    let code = match stop {
-        Stop::DoubleWrite { .. } => 5,
-        Stop::OutOfRange { .. } => 6,
-        Stop::FramesFull { .. } => 7,
-        Stop::CellsFull { .. } => 8,
-        Stop::BudgetSpent { .. } => 9,
-        Stop::NoMemory => 11,
-    };
-    Status { code }
+    match stop {
+        Stop::DoubleWrite { .. } => Status { code: 5 },
+        Stop::OutOfRange { .. } => Status { code: 6 },
+        Stop::FramesFull { .. } => Status { code: 7 },
+        Stop::CellsFull { .. } => Status { code: 8 },
+        Stop::BudgetSpent { .. } => Status { code: 9 },
+        Stop::NoMemory => say_no_memory(out),
+    }
 }

@@ -1,15 +1,24 @@
-use Rattle.std.proofs.Common.{rules, ◌≡◌, ◌≤◌, ℕ, List, length, ◌+◌, ◌-◌, ◌*◌, ◌<◌, ◌/◌, ◌%◌, Bool, true, false, nat_eq, nat_lt, [], ◌∷◌, ◌++◌, slice_index_or, slice_set, bit_and, bit_or, Fits, w8, w32, w64, Bor, MutBor}
-use Rattle.tam_graph.specs.Reading.{Reads}
-use Rattle.tam_read.specs.Placed.{lines_in}
+use Rattle.std.proofs.Common.{◌≡◌, ◌∙◌, sym, ap, refl}
+use Rattle.std.specs.Prelude.{Some}
+use Rattle.tam_graph.specs.Texts.{canonical}
+use Rattle.tam_input.proofs.Refused.{if-ok}
+use Rattle.tam_list.specs.Listings.{check_text}
 use Rattle.tam_input.specs.Inputs.{request_of}
-use Rattle.tam.specs.Answers.{AnswerTo, Spells}
-use Rattle.tam.specs.Headline.{IsDone}
+use Rattle.tam.specs.Answers.{AnswerTo, listed, wanted, listing}
+use Rattle.tam.proofs.Saying.{made-done}
 use Rattle.tam.proofs.graph_text.answer_accepted.Goals as goal
 
--- src/graph_text.rt:67:1
 pub returns-in-Check : goal.returns-in-Check
-returns-in-Check g c = ?
+returns-in-Check g c = record {
+  done = λ bytes spelled.
+      made-done _ _ _ _ (AnswerTo (request_of c.args.job.now c.args.order) bytes) 0 c.say_made.result.code c.print_check.result (check_text c.args.graph.now)
+      (listed spelled (ap (λ m. listing m c.args.graph.now) (sym c.in-Check.ensures.value))) wanted c.print_check.ensures.value c.say_made.ensures.said;
+}
 
--- src/graph_text.rt:67:1
 pub returns-in-EmitDg : goal.returns-in-EmitDg
-returns-in-EmitDg g c = ?
+returns-in-EmitDg g c = record {
+  done = λ bytes spelled.
+      made-done _ _ _ _ (AnswerTo (request_of c.args.job.now c.args.order) bytes) 0 c.say_made-in-EmitDg.result.code c.print.result (canonical c.args.graph.now)
+      (listed spelled (ap (λ m. listing m c.args.graph.now) (sym c.in-EmitDg.ensures.value))) wanted (if-ok c.print.result (λ t e. e ∙ ap canonical c.graph.ensures.value) c.print.ensures.value)
+      c.say_made-in-EmitDg.ensures.said;
+}

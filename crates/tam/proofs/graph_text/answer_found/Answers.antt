@@ -1,15 +1,27 @@
-use Rattle.std.proofs.Common.{rules, ◌≡◌, ◌≤◌, ℕ, List, length, ◌+◌, ◌-◌, ◌*◌, ◌<◌, ◌/◌, ◌%◌, Bool, true, false, nat_eq, nat_lt, [], ◌∷◌, ◌++◌, slice_index_or, slice_set, bit_and, bit_or, Fits, w8, w32, w64, Bor, MutBor}
-use Rattle.tam_graph.specs.Reading.{Reads}
-use Rattle.tam_read.specs.Placed.{lines_in}
+use Rattle.std.proofs.Common.{◌≡◌, ◌∙◌, ap, ap₂}
+use Rattle.tam_read.specs.Placed.{line_at, lines_in}
+use Rattle.tam_input.proofs.Refused.{if-ok}
 use Rattle.tam_input.specs.Inputs.{request_of}
-use Rattle.tam.specs.Answers.{AnswerTo, Spells}
-use Rattle.tam.specs.Headline.{IsDone}
+use Rattle.tam.specs.AnswerLines.{refused_line, check_cause_name}
+use Rattle.tam.specs.Answers.{AnswerTo, not_accepted, wanted}
+use Rattle.tam.proofs.Saying.{said-done, made-done}
 use Rattle.tam.proofs.graph_text.answer_found.Goals as goal
 
--- src/graph_text.rt:54:1
 pub returns-in-Err-default-At : goal.returns-in-Err-default-At
-returns-in-Err-default-At g c = ?
+returns-in-Err-default-At g c = record {
+  done = λ bytes reads lines.
+      let told = c.in-Err-default-At in
+      made-done _ _ _ _ (AnswerTo (request_of c.args.job.now c.args.order) bytes) 1 c.say_made.result.code c.refused_line.result
+      (refused_line (line_at (lines_in bytes) told.place) (check_cause_name told.cause))
+      (not_accepted reads (rw told.field-0-1-is at told.ensures.refused)) wanted
+      (if-ok c.refused_line.result (λ t e. e ∙ ap₂ refused_line
+      (c.line-line.ensures.value ∙ ap (line_at c.args.found.lines) told.place-is ∙ ap (λ l. line_at l told.place) lines)
+      (c.check_cause_name.ensures.value ∙ ap check_cause_name told.cause-is))
+      c.refused_line.ensures.value) c.say_made.ensures.said;
+}
 
--- src/graph_text.rt:45:1
 pub returns : goal.returns
-returns g c = ?
+returns g c = record {
+  done = λ bytes reads lines.
+      said-done _ _ _ _ (AnswerTo (request_of c.args.job.now c.args.order) bytes) 11 c.say_no_memory.result.code _ wanted c.say_no_memory.ensures.said;
+}

@@ -1,15 +1,20 @@
-use Rattle.std.proofs.Common.{rules, ◌≡◌, ◌≤◌, ℕ, List, length, ◌+◌, ◌-◌, ◌*◌, ◌<◌, ◌/◌, ◌%◌, Bool, true, false, nat_eq, nat_lt, [], ◌∷◌, ◌++◌, slice_index_or, slice_set, bit_and, bit_or, Fits, w8, w32, w64, Bor, MutBor}
-use Rattle.tam_graph.specs.Reading.{Reads}
-use Rattle.tam_read.specs.Placed.{lines_in}
+use Rattle.std.proofs.Common.{◌∙◌, ap, ap₂}
+use Rattle.tam_input.proofs.Refused.{if-ok}
 use Rattle.tam_input.specs.Inputs.{request_of}
-use Rattle.tam.specs.Answers.{AnswerTo, Spells}
-use Rattle.tam.specs.Headline.{IsDone}
+use Rattle.tam.specs.AnswerLines.{refused_line, read_cause_name}
+use Rattle.tam.specs.Answers.{AnswerTo, not_graph, wanted}
+use Rattle.tam.proofs.Saying.{said-done, made-done}
 use Rattle.tam.proofs.graph_text.answer_graph_text.Goals as goal
 
--- src/graph_text.rt:34:1
 pub returns-in-Err-At : goal.returns-in-Err-At
-returns-in-Err-At g c = ?
+returns-in-Err-At g c = record {
+  done = made-done _ _ _ _ (AnswerTo (request_of c.args.job.now c.args.order) c.args.text.now) 1 c.say_made.result.code c.refused_line.result
+      (refused_line c.in-Err-At.line (read_cause_name c.in-Err-At.cause)) (not_graph (rw c.in-Err-At.field-0-is at c.in-Err-At.ensures.refused)) wanted
+      (if-ok c.refused_line.result (λ t e. e ∙ ap₂ refused_line c.in-Err-At.line-is
+      (c.read_cause_name.ensures.value ∙ ap read_cause_name c.in-Err-At.cause-is)) c.refused_line.ensures.value) c.say_made.ensures.said;
+}
 
--- src/graph_text.rt:24:1
 pub returns : goal.returns
-returns g c = ?
+returns g c = record {
+  done = said-done _ _ _ _ (AnswerTo (request_of c.args.job.now c.args.order) c.args.text.now) 11 c.say_no_memory.result.code _ wanted c.say_no_memory.ensures.said;
+}

@@ -1,7 +1,7 @@
 -- Sets of places as rising lists of their members.
 use Rattle.std.specs.Prelude.{ℕ, Bool, ◌&&◌, ◌||◌, ◌==◌, List, filter}
 use Rattle.tam_word.specs.Lists.{below, all_of, has}
-use Rattle.tam_sets.specs.declared.TheConstants.{PLACES}
+use Rattle.tam_sets.specs.declared.set.TheConstants.{PLACES}
 
 -- the places that pass a test, rising
 unfoldable pub places_where : (ℕ → Bool) → List ℕ

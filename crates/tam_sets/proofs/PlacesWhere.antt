@@ -1,10 +1,9 @@
 -- The places that pass a test: which they are, and when two tests give the same.
-use Rattle.std.proofs.Common.{◌≡◌, ℕ, ◌<◌, Bool, true, false, ◌&&◌, ◌||◌, ◌==◌, nat_lt, List, [], ◌∷◌, filter, refl, sym, ap, subst, ◌∙◌, inl, inr, true≢false}
-use Rattle.tam_word.specs.Lists.{below, all_of, has}
-use Rattle.tam_word.proofs.Tests.{below-test}
-use Rattle.tam_word.proofs.Members.{In, filter-in, in-filter, below-in, in-below, has-in, in-has, not-has, in-all, all-in}
+use Rattle.std.proofs.Common.{◌≡◌, ℕ, ◌<◌, Bool, true, false, List, [], ◌∷◌, filter, refl, sym, ap, subst, ◌∙◌, inl, inr, true≢false}
+use Rattle.tam_word.specs.Lists.{below, has}
+use Rattle.tam_word.proofs.Members.{In, filter-in, in-filter, below-in, in-below, in-has, not-has}
 use Rattle.tam_sets.specs.declared.set.TheConstants.{PLACES}
-use Rattle.tam_sets.specs.Sets.{places_where, with_place, met, joined, is_within}
+use Rattle.tam_sets.specs.Sets.{place_numbers, places_where}
 
 -- tests that agree on each element keep the same ones
 filter-same : (f g : ℕ → Bool) (xs : List ℕ) → ((x : ℕ) → In x xs → f x ≡ g x) → filter f xs ≡ filter g xs
@@ -15,25 +14,43 @@ filter-same f g (x ∷ xs) h = go (g x) refl (h x (inl refl)) (filter-same f g x
     go true p q i = rw (q, p) (ap (λ ys. x ∷ ys) i)
     go false p q i = rw (q, p) i
 
+-- the places are the numbers below some number, which is that of the places
+pub record AllPlaces : Type 0 where
+  pub count : ℕ
+  pub is : count ≡ PLACES
+  pub numbers : place_numbers ≡ below count
+
+pub all-places : AllPlaces
+unfolding place_numbers
+all-places = record { count = PLACES; is = refl; numbers = refl }
+
+-- a number of a place is below the number of places
+number-below : (x : ℕ) → In x place_numbers → x < PLACES
+number-below x i = let a = all-places in subst (λ n. x < n) a.is (in-below x a.count (subst (λ ns. In x ns) a.numbers i))
+
+-- and the other way round
+below-number : (x : ℕ) → x < PLACES → In x place_numbers
+below-number x l = let a = all-places in subst (λ ns. In x ns) (sym a.numbers) (below-in x a.count (subst (λ n. x < n) (sym a.is) l))
+
 -- tests that agree on each place give the same places
 pub places-same : (f g : ℕ → Bool) → ((x : ℕ) → x < PLACES → f x ≡ g x) → places_where f ≡ places_where g
 unfolding places_where
-places-same f g h = filter-same f g (below PLACES) (λ x i. h x (in-below x PLACES i))
+places-same f g h = filter-same f g place_numbers (λ x i. h x (number-below x i))
 
 -- a place that passes is one of them
 pub where-in : (f : ℕ → Bool) (x : ℕ) → x < PLACES → f x ≡ true → In x (places_where f)
 unfolding places_where
-where-in f x l h = filter-in f x (below PLACES) (below-in x PLACES l) h
+where-in f x l h = filter-in f x place_numbers (below-number x l) h
 
 -- and each of them is a place
 pub in-where : (f : ℕ → Bool) (x : ℕ) → In x (places_where f) → x < PLACES
 unfolding places_where
-in-where f x i = in-below x PLACES (in-filter f x (below PLACES) i).0
+in-where f x i = number-below x (in-filter f x place_numbers i).0
 
 -- that passes
 pub in-passes : (f : ℕ → Bool) (x : ℕ) → In x (places_where f) → f x ≡ true
 unfolding places_where
-in-passes f x i = (in-filter f x (below PLACES) i).1
+in-passes f x i = (in-filter f x place_numbers i).1
 
 -- a place is one of them exactly where it passes
 pub has-where : (f : ℕ → Bool) (x : ℕ) → x < PLACES → has (places_where f) x ≡ f x
@@ -58,3 +75,8 @@ where-none f h = go (places_where f) (λ x i. true≢false (sym (in-passes f x i
     go : (xs : List ℕ) → ((x : ℕ) → In x xs → ⊥) → xs ≡ []
     go [] k = refl
     go (x ∷ xs) k = absurd (k x (inl refl))
+
+-- the places as a filter of the numbers below some number
+pub where-filter : (f : ℕ → Bool) (n : ℕ) → place_numbers ≡ below n → places_where f ≡ filter f (below n)
+unfolding places_where
+where-filter f n e = ap (filter f) e

@@ -12,7 +12,7 @@ use Rattle.tam_sets.specs.declared.set.TheConstants.{PLACES}
 use Rattle.tam_sets.specs.declared.set.Set.TheInside.{Inside}
 use Rattle.tam_sets.specs.Sets.{places_where, with_place, met, joined, is_within}
 use Rattle.tam_sets.specs.Bits.{has_bit, members_of, bits_of, set_of, IsWithinWidth}
-use Rattle.tam_sets.proofs.PlacesWhere.{places-same, where-in, in-where, in-passes, has-where, has-beyond, where-has, where-none}
+use Rattle.tam_sets.proofs.PlacesWhere.{places-same, where-in, in-where, in-passes, has-where, where-none, where-filter, all-places}
 
 -- ---- one bit
 
@@ -170,8 +170,12 @@ low-bits w (suc n) =
 
 -- the places of a number's bits give it back
 pub members-back : (a : Inside) → IsWithinWidth a → set_of (members_of a) ≡ a
-unfolding places_where
-members-back a h = ap (λ (n : ℕ). record { bits = n }) (low-bits a.bits PLACES ∙ small a.bits (2 ^ PLACES) h)
+members-back a h =
+    let all = all-places in
+    let places : members_of a ≡ filter (has_bit a.bits) (below all.count) = where-filter (has_bit a.bits) all.count all.numbers in
+    let low : bits_of (members_of a) ≡ a.bits % 2 ^ all.count = ap bits_of places ∙ low-bits a.bits all.count in
+    let small : a.bits < 2 ^ all.count = subst (λ n. a.bits < 2 ^ n) (sym all.is) h in
+    ap (λ (n : ℕ). record { bits = n }) (low ∙ whole a.bits (2 ^ all.count) small)
   where
-    small : (v m : ℕ) → v < m → v % m ≡ v
-    small v m l = omega arith
+    whole : (v m : ℕ) → v < m → v % m ≡ v
+    whole v m l = omega arith

@@ -1,15 +1,17 @@
 -- The classes as they are stored: where a class stands, and what a merge leaves.
-use Rattle.std.proofs.Common.{◌≡◌, ℕ, zero, suc, ◌+◌, ◌-◌, ◌<◌, ◌≤◌, true, nat_lt, inl, inr, List, [], ◌∷◌, ◌++◌, refl, sym, ap, ap₂, subst, ◌∙◌, arith, length, map, take, drop, get_or, append_assoc, length-append}
+use Rattle.std.proofs.Common.{◌≡◌, ℕ, zero, suc, ◌+◌, ◌-◌, ◌^◌, ◌<◌, ◌≤◌, true, nat_lt, inl, inr, List, [], ◌∷◌, ◌++◌, refl, sym, ap, ap₂, subst, ◌∙◌, arith, length, map, take, drop, get_or, append_assoc, length-append, length-drop, length-take-le}
 use Rattle.std.specs.Prelude.{slice_range}
-use Rattle.std.specs.List.{concat, remove}
-use Rattle.std.proofs.lemmas.List.{take_at, drop_at, length-map}
+use Rattle.std.specs.List.{concat, remove, All}
+use Rattle.std.proofs.lemmas.List.Elements.{All-from_recursion}
+use Rattle.std.proofs.lemmas.List.{take_at, drop_at, drop-drop, length-map}
 use Rattle.tam_word.specs.Lists.{all_of, merge_rising}
 use Rattle.tam_word.proofs.Tests.{test-below}
 use Rattle.tam_word.proofs.Members.{In, has-in, all-in, in-all}
 use Rattle.tam_split.specs.Partitions.{Parts, class_at, merged}
 use Rattle.tam_split.specs.KeptParts.{AreFlat, AreClasses, AreApart, cut_from, ends_from, with_joined}
+use Rattle.tam_word.proofs.Each.{in-each}
 use Rattle.tam_split.proofs.Rising.{length-merge}
-use Rattle.tam_split.proofs.Flat.{ends-append, start-behind, end-behind, ends-moved, length-ends, range-behind, concat-append, Around, around}
+use Rattle.tam_split.proofs.Flat.{ends-append, start-behind, end-behind, ends-moved, length-ends, length-cut, cut-all, range-behind, concat-append, Around, around}
 use Rattle.tam_split.proofs.Merged.{class_at-behind, apart, united, later, merged-is, concat-apart, concat-united, first-rising, second-rising, none-in_both, united-kept}
 
 -- ---- where a class stands
@@ -324,3 +326,46 @@ unites ps places ends flat a b l h from middle start end f m s e =
         (subst (λ x. Unites qs ws x (length before) (later before first between second behind) from middle start end) (sym k)
         (subst (λ x. Unites qs x (ends_from 0 all) (length before) (later before first between second behind) from middle start end) (sym j)
         (subst (λ x. Unites x (concat all) (ends_from 0 all) (length before) (later before first between second behind) from middle start end) (sym i) plain))))
+
+-- where the code reads the bounds off the ends
+pub unites-read : (places ends : List ℕ) (a b : ℕ) → AreFlat (cut_from 0 places ends) places ends → a < b → b < length ends → (ds es : List ℕ) → ds ≡ ends → es ≡ ends
+    → (from middle start end : ℕ) → from ≡ get_or (0 ∷ ds) a 0 → middle ≡ get_or ds a 0 → start ≡ get_or (0 ∷ es) b 0 → end ≡ get_or es b 0
+    → Unites (cut_from 0 places ends) places ends a b from middle start end
+unites-read places ends a b flat l h ds es i j from middle start end f m s e =
+    unites (cut_from 0 places ends) places ends flat a b l (let n = length-cut 0 places ends in omega arith) from middle start end (f ∙ ap (λ x. get_or (0 ∷ x) a 0) i) (m ∙ ap (λ x. get_or x a 0) i)
+    (s ∙ ap (λ x. get_or (0 ∷ x) b 0) j) (e ∙ ap (λ x. get_or x b 0) j)
+
+-- what is stored is cut out again
+pub flat-cut : (ps : Parts) (places ends : List ℕ) → AreFlat ps places ends → cut_from 0 places ends ≡ ps
+flat-cut ps places ends flat = ap₂ (λ x y. cut_from 0 x y) flat.places_of flat.ends_of ∙ cut-all ps
+
+-- so it is stored as what is cut out of it
+pub flat-again : (ps : Parts) (places ends : List ℕ) → AreFlat ps places ends → AreFlat (cut_from 0 places ends) places ends
+flat-again ps places ends flat = subst (λ qs. AreFlat qs places ends) (sym (flat-cut ps places ends flat)) flat
+
+-- no end is so late that moving it on overflows
+pub ends-fit : (ps : Parts) (places ends : List ℕ) → AreFlat ps places ends → (by : ℕ) → by ≤ 128 → All (λ e. e + by < 2 ^ 32) ends
+ends-fit ps places ends flat by h =
+    All-from_recursion (λ e. e + by < 2 ^ 32) ends (in-each (λ e. e + by < 2 ^ 32) ends (λ e i. let l : e ≤ 128 = ends-few ps places ends flat e i in fits e l))
+  where
+    fits : (e : ℕ) → e ≤ 128 → e + by < 2 ^ 32
+    fits e l = omega arith
+
+-- what the code leaves of the ends
+pub removed-is : (ds ends moved es : List ℕ) (n a b by : ℕ) → ds ≡ ends → n ≡ length ends → a < b → b < length ends → moved ≡ map (λ e. e + by) (take (b - a) (drop a ds))
+    → es ≡ remove (take n ((take a ds ++ (moved ++ drop (b - a) (drop a ds))) ++ drop (length (take a ds ++ (moved ++ drop (b - a) (drop a ds)))) ends)) b
+    → es ≡ moved_ends ends a b by
+removed-is ds ends moved es n a b by i k l h m r =
+    let far : drop (b - a) (drop a ds) ≡ drop b ends =
+    drop-drop (b - a) a ds ∙ ap₂ (λ x y. drop x y) (let e : a + (b - a) ≡ b = omega arith in e) i in
+    let here : moved ≡ map (λ e. e + by) (take (b - a) (drop a ends)) = m ∙ ap (λ x. map (λ e. e + by) (take (b - a) (drop a x))) i in
+    let whole : take a ds ++ (moved ++ drop (b - a) (drop a ds)) ≡ take a ends ++ (map (λ e. e + by) (take (b - a) (drop a ends)) ++ drop b ends) =
+    ap₂ (λ x y. x ++ y) (ap (take a) i) (ap₂ (λ x y. x ++ y) here far) in
+    let w = take a ends ++ (map (λ e. e + by) (take (b - a) (drop a ends)) ++ drop b ends) in
+    let front : length (take a ends) ≡ a = length-take-le a ends (omega arith) in
+    let part : length (take (b - a) (drop a ends)) ≡ b - a = length-take-le (b - a) (drop a ends) (omega (arith, length-drop a ends)) in
+    let long : length w ≡ n =
+    omega (arith, length-append (take a ends) (map (λ e. e + by) (take (b - a) (drop a ends)) ++ drop b ends), length-append (map (λ e. e + by) (take (b - a) (drop a ends))) (drop b ends),
+    length-map (take (b - a) (drop a ends)) (λ e. e + by), length-drop b ends) in
+    let back : take n (w ++ drop (length w) ends) ≡ w = take_at w (drop (length w) ends) n long in
+    r ∙ (ap (λ x. remove (take n (x ++ drop (length x) ends)) b) whole ∙ ap (λ x. remove x b) back)

@@ -4,6 +4,7 @@ use Rattle.tam_word.specs.Lists.{below, has}
 use Rattle.tam_word.proofs.Members.{In, filter-in, in-filter, below-in, in-below, in-has, not-has}
 use Rattle.tam_sets.specs.declared.set.TheConstants.{PLACES}
 use Rattle.tam_sets.specs.Sets.{place_numbers, places_where}
+use Rattle.tam_sets.specs.BitsBack.{all-places}
 
 -- tests that agree on each element keep the same ones
 filter-same : (f g : ℕ → Bool) (xs : List ℕ) → ((x : ℕ) → In x xs → f x ≡ g x) → filter f xs ≡ filter g xs
@@ -13,16 +14,6 @@ filter-same f g (x ∷ xs) h = go (g x) refl (h x (inl refl)) (filter-same f g x
     go : (t : Bool) → g x ≡ t → f x ≡ g x → filter f xs ≡ filter g xs → filter f (x ∷ xs) ≡ filter g (x ∷ xs)
     go true p q i = rw (q, p) (ap (λ ys. x ∷ ys) i)
     go false p q i = rw (q, p) i
-
--- the places are the numbers below some number, which is that of the places
-pub record AllPlaces : Type 0 where
-  pub count : ℕ
-  pub is : count ≡ PLACES
-  pub numbers : place_numbers ≡ below count
-
-pub all-places : AllPlaces
-unfolding place_numbers
-all-places = record { count = PLACES; is = refl; numbers = refl }
 
 -- a number of a place is below the number of places
 number-below : (x : ℕ) → In x place_numbers → x < PLACES
@@ -75,8 +66,3 @@ where-none f h = go (places_where f) (λ x i. true≢false (sym (in-passes f x i
     go : (xs : List ℕ) → ((x : ℕ) → In x xs → ⊥) → xs ≡ []
     go [] k = refl
     go (x ∷ xs) k = absurd (k x (inl refl))
-
--- the places as a filter of the numbers below some number
-pub where-filter : (f : ℕ → Bool) (n : ℕ) → place_numbers ≡ below n → places_where f ≡ filter f (below n)
-unfolding places_where
-where-filter f n e = ap (filter f) e

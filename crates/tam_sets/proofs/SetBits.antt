@@ -1,33 +1,22 @@
 -- What the operations on bits do to the places of a set.
 use Rattle.std.proofs.Common.{◌≡◌, ◌≢◌, ℕ, zero, suc, ◌+◌, ◌-◌, ◌*◌, ◌/◌, ◌%◌, ◌^◌, ◌<◌, ◌≤◌, Bool, true, false, cond, ◌&&◌, ◌||◌, ◌==◌, nat_lt, List, [], ◌∷◌, ◌++◌, filter, refl, sym, ap, ap₂, subst, ◌∙◌, inl, inr, true≢false}
-use Rattle.std.proofs.Common.{arith, min, max, tests, bit_and, bit_or, w128, ◌⊎◌}
-use Rattle.std.specs.Int.{bit_at, bit_not}
-use Rattle.std.proofs.lemmas.Nat.{mod-pow-add}
+use Rattle.std.proofs.Common.{arith, min, max, tests, bit_and, bit_or, ◌⊎◌}
+use Rattle.std.specs.Int.{bit_at, bit_not, w128}
 use Rattle.std.proofs.lemmas.Nat.Bits.{bit_at-lt, bit_at_and, bit_at_or, bit_at-zero, bit_at_not, bit_at_above, bit_at_set_same, bit_at_set_other, shr_and_one, same_from_bits}
-use Rattle.std.proofs.lemmas.List.Elements.{filter-append}
 use Rattle.tam_word.specs.Lists.{below, all_of, has}
 use Rattle.tam_word.proofs.Tests.{eq-number, number-eq, differs-number, number-differs, self-eq}
 use Rattle.tam_word.proofs.Members.{In, in-all, all-in, in-has, has-in}
 use Rattle.tam_sets.specs.declared.set.TheConstants.{PLACES}
-use Rattle.tam_sets.specs.declared.set.Set.TheInside.{Inside}
 use Rattle.tam_sets.specs.Sets.{places_where, with_place, met, joined, is_within}
-use Rattle.tam_sets.specs.Bits.{has_bit, members_of, bits_of, set_of, IsWithinWidth}
-use Rattle.tam_sets.proofs.PlacesWhere.{places-same, where-in, in-where, in-passes, has-where, where-none, where-filter, all-places}
+use Rattle.tam_sets.specs.Bits.{has_bit}
+use Rattle.tam_sets.proofs.PlacesWhere.{places-same, where-in, in-where, in-passes, has-where, where-none}
+use Rattle.tam_sets.specs.BitsBack.{bit-or_none}
 
 -- ---- one bit
 
 -- no bits are set in 0
 pub bits-none : places_where (has_bit 0) ≡ []
 bits-none = where-none (has_bit 0) (λ x l. rw (bit_at-zero x) refl)
-
--- a bit is 0 or 1
-bit-or_none : (n x : ℕ) → (bit_at n x ≡ 1) ⊎ (bit_at n x ≡ 0)
-bit-or_none n x = go (bit_at n x) (bit_at-lt n x)
-  where
-    go : (b : ℕ) → b < 2 → (b ≡ 1) ⊎ (b ≡ 0)
-    go zero h = inr refl
-    go (suc zero) h = inl refl
-    go (suc (suc b)) h = absurd (omega arith)
 
 -- the bit of a place
 pub has-bit : (n x : ℕ) → x < PLACES → has (places_where (has_bit n)) x ≡ has_bit n x
@@ -132,50 +121,3 @@ within-test a b g h = go (is_within (places_where (has_bit a)) (places_where (ha
     go : (t : Bool) → is_within (places_where (has_bit a)) (places_where (has_bit b)) ≡ t → (bit_and a (bit_not w128 b) == 0) ≡ is_within (places_where (has_bit a)) (places_where (has_bit b))
     go true p = eq-number (bit_and a (bit_not w128 b)) 0 (within-bits a b g h p) ∙ sym p
     go false p = differs-number (bit_and a (bit_not w128 b)) 0 (λ e. true≢false (sym (bits-within a b h e) ∙ p)) ∙ sym p
-
--- ---- the number of a set
-
--- of two lists of places
-bits-append : (xs ys : List ℕ) → bits_of (xs ++ ys) ≡ bits_of xs + bits_of ys
-bits-append [] ys = omega arith
-bits-append (x ∷ xs) ys = let i : bits_of (xs ++ ys) ≡ bits_of xs + bits_of ys = bits-append xs ys in omega arith
-
--- the low bits of a number
-low-bits : (w n : ℕ) → bits_of (filter (has_bit w) (below n)) ≡ w % 2 ^ n
-low-bits w zero = one w
-  where
-    one : (v : ℕ) → 0 ≡ v % 1
-    one v = omega arith
-low-bits w (suc n) =
-    let i : bits_of (filter (has_bit w) (below n)) ≡ w % 2 ^ n = low-bits w n in
-    let cut : bits_of (filter (has_bit w) (below n ++ n ∷ [])) ≡ bits_of (filter (has_bit w) (below n)) + bits_of (filter (has_bit w) (n ∷ [])) =
-    ap bits_of (filter-append (has_bit w) (below n) (n ∷ [])) ∙ bits-append (filter (has_bit w) (below n)) (filter (has_bit w) (n ∷ [])) in
-    let last : bits_of (filter (has_bit w) (n ∷ [])) ≡ bit_at w n * 2 ^ n = one (bit-or_none w n) in
-    let all : w % 2 ^ (1 + n) ≡ bit_at w n * 2 ^ n + w % 2 ^ n = mod-pow-add w 1 n in
-    let same : w % 2 ^ (suc n) ≡ w % 2 ^ (1 + n) = ap (λ m. w % 2 ^ m) (let e : suc n ≡ 1 + n = omega arith in e) in
-    cut ∙ (ap₂ (λ x y. x + y) i last ∙ (plus (w % 2 ^ n) (bit_at w n * 2 ^ n) ∙ (sym all ∙ sym same)))
-  where
-    plus : (x y : ℕ) → x + y ≡ y + x
-    plus x y = omega arith
-
-    one : (bit_at w n ≡ 1) ⊎ (bit_at w n ≡ 0) → bits_of (filter (has_bit w) (n ∷ [])) ≡ bit_at w n * 2 ^ n
-    one (inl e) = rw e (twice (2 ^ n))
-      where
-        twice : (m : ℕ) → m + 0 ≡ 1 * m
-        twice m = omega arith
-    one (inr e) = rw e (none (2 ^ n))
-      where
-        none : (m : ℕ) → 0 ≡ 0 * m
-        none m = omega arith
-
--- the places of a number's bits give it back
-pub members-back : (a : Inside) → IsWithinWidth a → set_of (members_of a) ≡ a
-members-back a h =
-    let all = all-places in
-    let places : members_of a ≡ filter (has_bit a.bits) (below all.count) = where-filter (has_bit a.bits) all.count all.numbers in
-    let low : bits_of (members_of a) ≡ a.bits % 2 ^ all.count = ap bits_of places ∙ low-bits a.bits all.count in
-    let small : a.bits < 2 ^ all.count = subst (λ n. a.bits < 2 ^ n) (sym all.is) h in
-    ap (λ (n : ℕ). record { bits = n }) (low ∙ whole a.bits (2 ^ all.count) small)
-  where
-    whole : (v m : ℕ) → v < m → v % m ≡ v
-    whole v m l = omega arith

@@ -76,3 +76,7 @@ members-back a h =
     let low : bits_of (members_of a) ≡ a.bits % 2 ^ all.count = ap bits_of places ∙ low-bits a.bits all.count in
     let small : a.bits < 2 ^ all.count = subst (λ n. a.bits < 2 ^ n) (sym all.is) h in
     ap (λ (n : ℕ). record { bits = n }) (low ∙ mod-eq_of_lt small)
+
+-- the number of a set's bits, by its members
+pub bits-back : (a : Inside) (xs : List ℕ) → IsWithinWidth a → members_of a ≡ xs → bits_of xs ≡ a.bits
+bits-back a xs h e = ap bits_of (sym e) ∙ ap (λ (b : Inside). b.bits) (members-back a h)

@@ -1,0 +1,1 @@
+// Sets of small blocks, worked by hand.

@@ -140,8 +140,8 @@ kept-places f test vs few =
     let all = all-places in
     let room : length vs ≤ all.count = let e = all.is in omega arith in
     where-filter kept all.count all.numbers
-        ∙ sym (filter-twice f (λ x. test (or_vertex (slice_get vs x))) (below (length vs))
-        ∙ filter-within (λ x. f x && test (or_vertex (slice_get vs x))) kept (length vs) (λ x l. sym (inside x l)) beyond all.count room)
+    ∙ sym (filter-twice f (λ x. test (or_vertex (slice_get vs x))) (below (length vs))
+    ∙ filter-within (λ x. f x && test (or_vertex (slice_get vs x))) kept (length vs) (λ x l. sym (inside x l)) beyond all.count room)
   where
     listed : ℕ → Bool
     listed x = nat_lt x (length vs) && test (or_vertex (slice_get vs x))
@@ -174,18 +174,18 @@ pub kept-dependences : (b : BlockGraph) (sets : List (List ℕ)) → length b.ve
     → map (λ set. met set (places_that (λ v. v.inlet) b.vertices)) sets ≡ map (dependences b) (places b)
 kept-dependences b sets few e =
     ap (map (λ set. met set (places_that (λ v. v.inlet) b.vertices))) e
-        ∙ (map-twice (λ set. met set (places_that (λ v. v.inlet) b.vertices)) (reaching b.edges) (below (length b.vertices))
-        ∙ map-below (λ y. met (reaching b.edges y) (places_that (λ v. v.inlet) b.vertices)) (dependences b) (length b.vertices)
-        (λ y l. kept-places (λ x. reaches b.edges x y) (λ v. v.inlet) b.vertices few))
+    ∙ (map-twice (λ set. met set (places_that (λ v. v.inlet) b.vertices)) (reaching b.edges) (below (length b.vertices))
+    ∙ map-below (λ y. met (reaching b.edges y) (places_that (λ v. v.inlet) b.vertices)) (dependences b) (length b.vertices)
+    (λ y l. kept-places (λ x. reaches b.edges x y) (λ v. v.inlet) b.vertices few))
 
 -- and their demands
 pub kept-demands : (b : BlockGraph) (sets : List (List ℕ)) → length b.vertices ≤ PLACES → sets ≡ map (reached b.edges) (below (length b.vertices))
     → map (λ set. met set (places_that (λ v. v.outlet) b.vertices)) sets ≡ map (demands b) (places b)
 kept-demands b sets few e =
     ap (map (λ set. met set (places_that (λ v. v.outlet) b.vertices))) e
-        ∙ (map-twice (λ set. met set (places_that (λ v. v.outlet) b.vertices)) (reached b.edges) (below (length b.vertices))
-        ∙ map-below (λ x. met (reached b.edges x) (places_that (λ v. v.outlet) b.vertices)) (demands b) (length b.vertices)
-        (λ x l. kept-places (λ y. reaches b.edges x y) (λ v. v.outlet) b.vertices few))
+    ∙ (map-twice (λ set. met set (places_that (λ v. v.outlet) b.vertices)) (reached b.edges) (below (length b.vertices))
+    ∙ map-below (λ x. met (reached b.edges x) (places_that (λ v. v.outlet) b.vertices)) (demands b) (length b.vertices)
+    (λ x l. kept-places (λ y. reaches b.edges x y) (λ v. v.outlet) b.vertices few))
 
 -- what `depends` gives in the end
 pub depends-end : (b : BlockGraph) (vs : List Vertex) (es : Edges) (k : ℕ) (sets news : List (List ℕ)) (ins : List ℕ) → vs ≡ b.vertices → es ≡ b.edges

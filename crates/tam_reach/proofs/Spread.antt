@@ -152,10 +152,10 @@ pub depends-step : (n : ℕ) (es fs : Edges) (e : ℕ × ℕ) (olds news : List 
 depends-step n es fs e olds news few next s t before after =
     let more : get_or olds e.0 [] ≡ reaching es e.0 = ap (λ l. get_or l e.0 []) before ∙ get-map-below (reaching es) n e.0 [] s in
     after
-        ∙ (ap₂ (λ m l. map (spread_into e.1 m) l) more before
-        ∙ (map-twice (spread_into e.1 (reaching es e.0)) (reaching es) (below n)
-        ∙ (map-below (λ y. spread_into e.1 (reaching es e.0) (reaching es y)) (reaching (e ∷ es)) n (λ y l. spread-reaching e es y (omega arith))
-        ∙ ap (λ gs. map (reaching gs) (below n)) (sym next))))
+    ∙ (ap₂ (λ m l. map (spread_into e.1 m) l) more before
+    ∙ (map-twice (spread_into e.1 (reaching es e.0)) (reaching es) (below n)
+    ∙ (map-below (λ y. spread_into e.1 (reaching es e.0) (reaching es y)) (reaching (e ∷ es)) n (λ y l. spread-reaching e es y (omega arith))
+    ∙ ap (λ gs. map (reaching gs) (below n)) (sym next))))
 
 -- a step of `demands`
 pub demands-step : (n : ℕ) (es fs : Edges) (e : ℕ × ℕ) (olds news : List (List ℕ)) → n ≤ 128 → fs ≡ e ∷ es → e.0 < n → e.1 < n
@@ -163,10 +163,10 @@ pub demands-step : (n : ℕ) (es fs : Edges) (e : ℕ × ℕ) (olds news : List 
 demands-step n es fs e olds news few next s t before after =
     let more : get_or olds e.1 [] ≡ reached es e.1 = ap (λ l. get_or l e.1 []) before ∙ get-map-below (reached es) n e.1 [] t in
     after
-        ∙ (ap₂ (λ m l. map (spread_into e.0 m) l) more before
-        ∙ (map-twice (spread_into e.0 (reached es e.1)) (reached es) (below n)
-        ∙ (map-below (λ x. spread_into e.0 (reached es e.1) (reached es x)) (reached (e ∷ es)) n (λ x l. spread-reached e es x (omega arith))
-        ∙ ap (λ gs. map (reached gs) (below n)) (sym next))))
+    ∙ (ap₂ (λ m l. map (spread_into e.0 m) l) more before
+    ∙ (map-twice (spread_into e.0 (reached es e.1)) (reached es) (below n)
+    ∙ (map-below (λ x. spread_into e.0 (reached es e.1) (reached es x)) (reached (e ∷ es)) n (λ x l. spread-reached e es x (omega arith))
+    ∙ ap (λ gs. map (reached gs) (below n)) (sym next))))
 
 -- before the first edge
 pub alone-reaching : (n : ℕ) (es : Edges) (k : ℕ) → length es ≤ k → map (λ y. places_where (λ x. x == y)) (below n) ≡ map (reaching (drop k es)) (below n)
@@ -175,7 +175,7 @@ alone-reaching n es k h = ap (λ fs. map (reaching fs) (below n)) (sym (drop_all
 pub alone-reached : (n : ℕ) (es : Edges) (k : ℕ) → length es ≤ k → map (λ x. places_where (λ y. y == x)) (below n) ≡ map (reached (drop k es)) (below n)
 alone-reached n es k h =
     map-below (λ x. places_where (λ y. y == x)) (reached []) n (λ x l. places-same (λ y. y == x) (λ y. x == y) (λ y m. turned y x))
-        ∙ ap (λ fs. map (reached fs) (below n)) (sym (drop_all k es h))
+    ∙ ap (λ fs. map (reached fs) (below n)) (sym (drop_all k es h))
   where
     turned : (y x : ℕ) → (y == x) ≡ (x == y)
     turned y x = grind (arith, tests)

@@ -10,4 +10,4 @@ loop-place-preserved c =
     let more = rw pushed at c.push.ensures.items in
     let alone : c.insert.new.self ≡ places_where (λ x. x == place) = c.insert.ensures.value ∙ ap (λ (xs : List ℕ). with_place place xs) c.empty-alone.ensures.value in
     more
-        ∙ (ap₂ (λ (xs : List (List ℕ)) (x : List ℕ). xs ++ x ∷ []) c.loop-place.invariant alone ∙ sym (map-more (λ (y : ℕ). places_where (λ x. x == y)) place))
+    ∙ (ap₂ (λ (xs : List (List ℕ)) (x : List ℕ). xs ++ x ∷ []) c.loop-place.invariant alone ∙ sym (map-more (λ (y : ℕ). places_where (λ x. x == y)) place))

@@ -11,4 +11,4 @@ loop-set-preserved c =
     let set = get_or sets i c.set-item.result in
     let read : set ≡ get_or sets i set = ap (λ (s : List ℕ). get_or sets i s) c.set-item.is in
     ap (λ (s : List ℕ). slice_set sets i s) c.meet.ensures.value
-        ∙ map_over_more (λ (s : List ℕ). met s c.args.other.now) c.args.sets.now sets i set c.loop-set-test.true c.loop-set.invariant read
+    ∙ map_over_more (λ (s : List ℕ). met s c.args.other.now) c.args.sets.now sets i set c.loop-set-test.true c.loop-set.invariant read

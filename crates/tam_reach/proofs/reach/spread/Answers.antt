@@ -17,11 +17,11 @@ loop-set-preserved c =
     let step = map_over_more (spread_into c.args.at more) c.args.sets.now sets i set c.loop-set-test.true c.loop-set.invariant read in
     elim c.if-has.branch [
       | then-has w ↦ (
-      let test : has set c.args.at ≡ true = sym c.has.ensures.value ∙ w.if-has.true in
-      let same : spread_into c.args.at more set ≡ joined set more = rw (spread_into, test) refl in
-      w.sets-is ∙ (ap (λ (s : List ℕ). slice_set sets i s) (w.join.ensures.value ∙ sym same) ∙ step))
+          let test : has set c.args.at ≡ true = sym c.has.ensures.value ∙ w.if-has.true in
+          let same : spread_into c.args.at more set ≡ joined set more = rw (spread_into, test) refl in
+          w.sets-is ∙ (ap (λ (s : List ℕ). slice_set sets i s) (w.join.ensures.value ∙ sym same) ∙ step))
       | else-has w ↦ (
-      let test : has set c.args.at ≡ false = sym c.has.ensures.value ∙ w.if-has.false in
-      let same : spread_into c.args.at more set ≡ set = rw (spread_into, test) refl in
-      w.sets-is ∙ (ap (λ (s : List ℕ). slice_set sets i s) (sym same) ∙ step))
+          let test : has set c.args.at ≡ false = sym c.has.ensures.value ∙ w.if-has.false in
+          let same : spread_into c.args.at more set ≡ set = rw (spread_into, test) refl in
+          w.sets-is ∙ (ap (λ (s : List ℕ). slice_set sets i s) (sym same) ∙ step))
     ]

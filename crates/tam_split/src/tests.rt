@@ -1,0 +1,1 @@
+// Blocks of a small graph, worked by hand.

@@ -1,1 +1,5 @@
+pub mod Places
+pub mod Spreading
 pub mod Thirds
+pub mod Joining
+pub mod Deciding

@@ -12,7 +12,8 @@ use Rattle.tam_split.proofs.Validity.{ClassLeads, leads_to-leads, leads-leads_to
 use Rattle.tam_split.proofs.Separation.{Leak, Apart, apart-lost, lost-apart}
 use Rattle.tam_sets.specs.Sets.{places_where, with_place, met, joined, is_within}
 use Rattle.tam_quotient.specs.Quotients.{entering_of, allowed_of, ahead_of, behind_of, pair_of, may_join, leads_only_on, keeps_outlet}
-use Rattle.tam_quotient.proofs.Places.{same-test, where-in, in-where, has-where}
+use Rattle.tam_sets.proofs.PlacesWhere.{where-in, has-where}
+use Rattle.tam_quotient.proofs.Places.{same-test, member-passes}
 use Rattle.tam_quotient.proofs.Thirds.{NoneBetween, none-between, none-back, one-after}
 use Rattle.tam_quotient.proofs.Joining.{leads-within, inlet-place, outlet-place, inlet-there, within-no_leak, no_leak-within, on_way, way-member, member-way, pair-has, has-pair}
 
@@ -25,7 +26,7 @@ module _ (b : BlockGraph) (graph : IsBlockGraph b) (few : length b.vertices ≤ 
         → (x : ℕ) → (x ≡ k → ⊥) → (x ≡ l → ⊥) → x < 128
         → ((has (on_way b graph few ps parts k l) x || has (on_way b graph few ps parts l k) x) ≡ true) → ⊥
     none-third h x m n small t =
-        let i = in-where (λ y. has (on_way b graph few ps parts k l) y || has (on_way b graph few ps parts l k) y) x small t in
+        let i = where-in (λ y. has (on_way b graph few ps parts k l) y || has (on_way b graph few ps parts l k) y) x small t in
         elim (has-pair k l x small (all-in (has (pair_of k l)) (joined (on_way b graph few ps parts k l) (on_way b graph few ps parts l k)) h x i))
         [ inl e ↦ m e | inr e ↦ n e ]
 
@@ -62,7 +63,7 @@ module _ (b : BlockGraph) (graph : IsBlockGraph b) (few : length b.vertices ≤ 
         each x i = go (x == k) refl (x == l) refl (either-true (has (on_way b graph few ps parts k l) x) (has (on_way b graph few ps parts l k) x) r.1)
           where
             r : (x < 128) × ((has (on_way b graph few ps parts k l) x || has (on_way b graph few ps parts l k) x) ≡ true)
-            r = where-in (λ y. has (on_way b graph few ps parts k l) y || has (on_way b graph few ps parts l k) y) x i
+            r = member-passes (λ y. has (on_way b graph few ps parts k l) y || has (on_way b graph few ps parts l k) y) x i
 
             other : (y z : ℕ) → (y == z) ≡ false → y ≡ z → ⊥
             other y z p e = true≢false (sym (eq-number y z e) ∙ p)
@@ -137,7 +138,7 @@ module _ (b : BlockGraph) (graph : IsBlockGraph b) (few : length b.vertices ≤ 
       other low high false e =
           let n : c ≡ a → ⊥ = λ d. true≢false (sym (eq-number a c (sym d)) ∙ e) in
           let r = way-member b graph few ps parts least a a c n p q in
-          let i = in-where (λ y. has (ahead_of b ps a) y && has (behind_of b ps a) y) c r.0
+          let i = where-in (λ y. has (ahead_of b ps a) y && has (behind_of b ps a) y) c r.0
           (sym (has-where (λ y. has (ahead_of b ps a) y && has (behind_of b ps a) y) c r.0) ∙ r.1) in
           let t : leads_only_on b ps a ≡ true = all-in (leads_only_on b ps) (below (length ps)) h a (below-in a (length ps) high) in
           let s = all-in (has (with_place a [])) (on_way b graph few ps parts a a) t c i in
@@ -149,7 +150,7 @@ module _ (b : BlockGraph) (graph : IsBlockGraph b) (few : length b.vertices ≤ 
     where
       each : (a x : ℕ) → In x (on_way b graph few ps parts a a) → has (with_place a []) x ≡ true
       each a x i =
-          let r = where-in (λ y. has (ahead_of b ps a) y && has (behind_of b ps a) y) x i in
+          let r = member-passes (λ y. has (ahead_of b ps a) y && has (behind_of b ps a) y) x i in
           let m = member-way b graph few ps parts a a x r.0 (has-where (λ y. has (ahead_of b ps a) y && has (behind_of b ps a) y) x r.0 ∙ r.1) in
           has-where (λ y. has [] y || (y == a)) x r.0 ∙ eq-number x a (f x a m.1 m.0)
 
@@ -161,7 +162,7 @@ module _ (b : BlockGraph) (graph : IsBlockGraph b) (few : length b.vertices ≤ 
       let small : i < 128 = omega (arith, few, r.0) in
       let k : keeps_outlet b ps o ≡ true = all-in (keeps_outlet b ps) (places b) h o (below-in o (length b.vertices) s.0) in
       let t : is_within (entering_of b ps (class_of ps o)) (dependences b o) ≡ true = rw (keeps_outlet, s.1) at k in
-      let enters = in-where (λ j. (vertex_at b j).inlet && leads_to b.edges ps (class_of ps j) (class_of ps o)) i small
+      let enters = where-in (λ j. (vertex_at b j).inlet && leads_to b.edges ps (class_of ps j) (class_of ps o)) i small
       (true-both (vertex_at b i).inlet (leads_to b.edges ps (class_of ps i) (class_of ps o)) r.1 (leads-leads_to b ps (class_of ps i) (class_of ps o) l)) in
       (in-filter (λ j. reaches b.edges j o) i (inlets_of b)
       (has-in (dependences b o) i (all-in (has (dependences b o)) (entering_of b ps (class_of ps o)) t i enters))).1
@@ -176,7 +177,7 @@ module _ (b : BlockGraph) (graph : IsBlockGraph b) (few : length b.vertices ≤ 
         where
           each : (i : ℕ) → In i (entering_of b ps (class_of ps o)) → has (dependences b o) i ≡ true
           each i p =
-              let r = where-in (λ j. (vertex_at b j).inlet && leads_to b.edges ps (class_of ps j) (class_of ps o)) i p in
+              let r = member-passes (λ j. (vertex_at b j).inlet && leads_to b.edges ps (class_of ps j) (class_of ps o)) i p in
               let s = both-true (vertex_at b i).inlet (leads_to b.edges ps (class_of ps i) (class_of ps o)) r.1 in
               let inlet = filter-in (λ x. (vertex_at b x).inlet) i (places b) (below-in i (length b.vertices) (inlet-there b graph few ps parts i s.0)) s.0 in
               let outlet = filter-in (λ x. (vertex_at b x).outlet) o (places b) h e in

@@ -17,7 +17,8 @@ use Rattle.tam_split.proofs.Separation.{Leak, Apart, apart-lost, lost-apart}
 use Rattle.tam_split.proofs.Partitioning.{edge-within}
 use Rattle.tam_sets.specs.Sets.{places_where, with_place, met, joined, is_within}
 use Rattle.tam_quotient.specs.Quotients.{leads_to_outlet, allows, ahead_of, behind_of, entering_of, allowed_of, pair_of}
-use Rattle.tam_quotient.proofs.Places.{same-test, where-in, in-where, has-where}
+use Rattle.tam_sets.proofs.PlacesWhere.{where-in, has-where}
+use Rattle.tam_quotient.proofs.Places.{same-test, member-passes}
 use Rattle.tam_quotient.proofs.Thirds.{NoneBetween, none-between, none-back, one-after}
 
 -- a block of at most 128 places, in classes of which each place has one
@@ -68,7 +69,7 @@ module _ (b : BlockGraph) (graph : IsBlockGraph b) (few : length b.vertices ≤ 
       let low : w.inlet < 128 = omega (arith, few, p.0) in
       let enters : ((vertex_at b w.inlet).inlet && leads_to b.edges ps (class_of ps w.inlet) d) ≡ true =
       true-both (vertex_at b w.inlet).inlet (leads_to b.edges ps (class_of ps w.inlet) d) p.1 (leads-leads_to b ps (class_of ps w.inlet) d w.from_inlet) in
-      let member = in-where (λ i. (vertex_at b i).inlet && leads_to b.edges ps (class_of ps i) d) w.inlet low enters in
+      let member = where-in (λ i. (vertex_at b i).inlet && leads_to b.edges ps (class_of ps i) d) w.inlet low enters in
       let allowed = all-in (has (allowed_of b ps c)) (entering_of b ps d) h w.inlet member in
       let test = sym (has-where (λ i. (vertex_at b i).inlet && all_of (allows b ps c i) (places b)) w.inlet low) ∙ allowed in
       let each = (both-true (vertex_at b w.inlet).inlet (all_of (allows b ps c w.inlet) (places b)) test).1 in
@@ -80,7 +81,7 @@ module _ (b : BlockGraph) (graph : IsBlockGraph b) (few : length b.vertices ≤ 
     where
       each : (i : ℕ) → In i (entering_of b ps d) → has (allowed_of b ps c) i ≡ true
       each i h =
-          let r = where-in (λ i. (vertex_at b i).inlet && leads_to b.edges ps (class_of ps i) d) i h in
+          let r = member-passes (λ i. (vertex_at b i).inlet && leads_to b.edges ps (class_of ps i) d) i h in
           let s = both-true (vertex_at b i).inlet (leads_to b.edges ps (class_of ps i) d) r.1 in
           has-where (λ i. (vertex_at b i).inlet && all_of (allows b ps c i) (places b)) i r.0
           ∙ true-both (vertex_at b i).inlet (all_of (allows b ps c i) (places b)) s.0 (in-all (allows b ps c i) (places b) (passes i s.0 s.1))

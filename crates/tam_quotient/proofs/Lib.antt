@@ -3,3 +3,5 @@ pub mod Spreading
 pub mod Thirds
 pub mod Joining
 pub mod Deciding
+pub mod Tabling
+pub mod Surroundings

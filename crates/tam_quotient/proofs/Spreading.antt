@@ -5,7 +5,8 @@ use Rattle.tam_word.proofs.Members.{In, any-in, in-any, in-append, left-in, righ
 use Rattle.tam_graph.specs.Edges.{Edges, reaches, Walk, Stay, Along}
 use Rattle.tam_graph.proofs.Walks.{is_edge, walk-reaches, reaches-walk}
 use Rattle.tam_sets.specs.Sets.{places_where, joined}
-use Rattle.tam_quotient.proofs.Places.{same-test, has-where, where-same}
+use Rattle.tam_sets.proofs.PlacesWhere.{has-where, places-same}
+use Rattle.tam_quotient.proofs.Places.{same-test}
 
 -- a walk of these edges is one of more
 walk-wider : {es ds : Edges} {x y : ℕ} → ((e : ℕ × ℕ) → In e es → In e ds) → Walk es x y → Walk ds x y
@@ -32,7 +33,7 @@ reaches-push es e x y = same-test (reaches (es ++ e ∷ []) x y) (reaches (e ∷
 -- where x reaches the edge's start, it reaches what the edge's end reaches besides
 pub row-grows : (es : Edges) (a c x : ℕ) → reaches es x a ≡ true
     → joined (places_where (reaches es x)) (places_where (reaches es c)) ≡ places_where (reaches (es ++ (a, c) ∷ []) x)
-row-grows es a c x h = where-same _ _ (λ y l. rw (has-where (reaches es x) y l, has-where (reaches es c) y l) (sym (reaches-push es (a, c) x y ∙ step y (reaches es x y) refl)))
+row-grows es a c x h = places-same _ _ (λ y l. rw (has-where (reaches es x) y l, has-where (reaches es c) y l) (sym (reaches-push es (a, c) x y ∙ step y (reaches es x y) refl)))
   where
     step : (y : ℕ) (t : Bool) → reaches es x y ≡ t → reaches ((a, c) ∷ es) x y ≡ (reaches es x y || reaches es c y)
     step y true p = rw p refl
@@ -40,7 +41,7 @@ row-grows es a c x h = where-same _ _ (λ y l. rw (has-where (reaches es x) y l,
 
 -- and where it doesn't, it reaches no more
 pub row-stays : (es : Edges) (a c x : ℕ) → reaches es x a ≡ false → places_where (reaches es x) ≡ places_where (reaches (es ++ (a, c) ∷ []) x)
-row-stays es a c x h = where-same _ _ (λ y l. sym (reaches-push es (a, c) x y ∙ step y (reaches es x y) refl))
+row-stays es a c x h = places-same _ _ (λ y l. sym (reaches-push es (a, c) x y ∙ step y (reaches es x y) refl))
   where
     step : (y : ℕ) (t : Bool) → reaches es x y ≡ t → reaches ((a, c) ∷ es) x y ≡ reaches es x y
     step y true p = rw p refl

@@ -47,9 +47,16 @@ pub(crate) fn class_of(p: &Parts, place: u32) -> u32
     ensures value { result ≡ class_of p.now place }
 {
     for k in 0..p.classes() {
-        if p.class(k).contains(&place) {
+        if has(p.class(k), place) {
             return k;
         }
     }
     unreachable!()
+}
+
+// Whether a place is one of these.
+fn has(places: &[u32], place: u32) -> bool
+    ensures value { result ≡ has places.now place }
+{
+    places.contains(&place)
 }

@@ -5,7 +5,7 @@ ghost use Rattle.tam_split.specs.Blocks.{vertex_at, places, dependences};
 ghost use Rattle.tam_split.specs.PartitionLaws.{IsPartition};
 ghost use Rattle.tam_sets.specs.Sets.{places_where};
 ghost use Rattle.tam_quotient.specs.Tables.{column, enters, entered, is_led_to, permitted};
-ghost use Rattle.tam_quotient.specs.Joins.{ways_of};
+ghost use Rattle.tam_quotient.specs.Joins.{ways_of, ways_to};
 
 use crate::Ways;
 use crate::block::{classes_of, is_inlet, is_outlet};
@@ -30,16 +30,28 @@ pub fn quotient(
     let leads = spread(alloc, b.edges(), &classes, p.classes())?;
     let mut ways = Vec::new(alloc);
     for k in 0..p.classes() {
-        let ahead = leads[k as usize];
-        let way = Ways {
-            ahead,
-            behind: behind(&leads, k),
-            entering: entering(b, &classes, &leads, k),
-            allowed: allowed(b, &classes, &ahead, depends),
-        };
+        let way = ways_to(b, &classes, &leads, depends, k);
         ways.push(way).map_err(|_| NoMemory)?;
     }
     Ok(ways)
+}
+
+// The ways to class k and from it, by the class of each place and by what each class leads to.
+fn ways_to(b: &BlockGraph, classes: &[u32], leads: &[Set], depends: &[Set], k: u32) -> Ways
+    requires few { length leads.now ≤ 128 }
+    requires there { k < length leads.now }
+    requires each { length classes.now ≡ length b.now.vertices }
+    requires in_range { (x : ℕ) → x < length classes.now → slice_index classes.now x < length leads.now }
+    requires depends { length depends.now ≡ length b.now.vertices }
+    ensures value { result ≡ ways_to b.now classes.now leads.now depends.now k }
+{
+    let ahead = leads[k as usize];
+    Ways {
+        ahead,
+        behind: behind(leads, k),
+        entering: entering(b, classes, leads, k),
+        allowed: allowed(b, classes, &ahead, depends),
+    }
 }
 
 // The classes that lead to class k.

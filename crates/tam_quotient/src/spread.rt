@@ -22,10 +22,20 @@ pub(crate) fn spread(
     ensures value { IfOk result (λ sets. sets.items ≡ map (λ k. places_where (reaches (renamed names.now edges.now) k)) (below n)) }
 {
     let mut sets = alone(alloc, n)?;
-    for &(from, to) in edges {
-        grow(&mut sets, names[from as usize], names[to as usize]);
-    }
+    grow_by_all(&mut sets, edges, names);
     Ok(sets)
+}
+
+// Adds to what each number reaches by no edge what it reaches by all.
+fn grow_by_all(sets: &mut [Set], edges: &[(u32, u32)], names: &[u32])
+    requires few { length sets.old ≤ 128 }
+    requires named { AreBelow (length sets.old) edges.now names.now }
+    requires alone { (k : ℕ) → k < length sets.old → set_at sets.old k ≡ places_where (reaches [] k) }
+    ensures value { (k : ℕ) → k < length sets.old → set_at sets.new k ≡ places_where (reaches (renamed names.now edges.now) k) }
+{
+    for &(from, to) in edges {
+        grow(sets, names[from as usize], names[to as usize]);
+    }
 }
 
 // For each of n numbers the set of it alone.

@@ -1,17 +1,17 @@
 -- Tests over what leads to the classes and from them decide which classes may be merged, and whether a partition is valid.
-use Rattle.std.proofs.Common.{◌≡◌, ℕ, ◌<◌, ◌≤◌, List, [], ◌∷◌, Bool, true, false, ◌&&◌, ◌||◌, refl, sym, subst, ap, arith, inl, inr, ◌⊎◌, ◌∙◌, true≢false, ◌==◌, length}
-use Rattle.tam_word.specs.Lists.{all_of, has, below}
+use Rattle.std.proofs.Common.{◌≡◌, ℕ, ◌<◌, ◌≤◌, List, [], ◌∷◌, Bool, true, false, ◌&&◌, ◌||◌, refl, sym, subst, ap, arith, inl, inr, ◌⊎◌, ◌∙◌, true≢false, ◌==◌, length, not}
+use Rattle.tam_word.specs.Lists.{all_of, any_of, has, below}
 use Rattle.tam_word.proofs.Tests.{number-eq, eq-number, both-true, true-both}
 use Rattle.tam_word.proofs.Members.{In, all-in, in-all, in-has, has-in, in-filter, filter-in, in-below, below-in}
-use Rattle.tam_graph.specs.Edges.{reaches}
+use Rattle.tam_graph.specs.Edges.{Edges, reaches, has_no_cycle}
 use Rattle.tam_split.specs.Blocks.{BlockGraph, vertex_at, places, inlets_of, outlets_of, dependences}
-use Rattle.tam_split.specs.Partitions.{Parts, class_of, leads_to, merged, may_merge, is_valid}
+use Rattle.tam_split.specs.Partitions.{Parts, class_of, class_edges, leads_to, merged, may_merge, is_valid}
 use Rattle.tam_split.specs.PartitionLaws.{IsBlockGraph}
 use Rattle.tam_split.proofs.Classes.{IsParts, parts-after}
-use Rattle.tam_split.proofs.Validity.{ClassLeads, leads_to-leads, leads-leads_to, Keeps, Valid, is_valid-valid, valid-is_valid}
+use Rattle.tam_split.proofs.Validity.{ClassLeads, leads_to-leads, leads-leads_to, Keeps, keeps-kept, Valid, is_valid-valid, valid-is_valid}
 use Rattle.tam_split.proofs.Separation.{Leak, Apart, apart-lost, lost-apart}
 use Rattle.tam_sets.specs.Sets.{places_where, with_place, met, joined, is_within}
-use Rattle.tam_quotient.specs.Quotients.{entering_of, allowed_of, ahead_of, behind_of, pair_of, may_join, leads_only_on, keeps_outlet}
+use Rattle.tam_quotient.specs.Quotients.{entering_of, allowed_of, ahead_of, behind_of, pair_of, may_join, closes_cycle, keeps_outlet}
 use Rattle.tam_sets.proofs.PlacesWhere.{where-in, has-where}
 use Rattle.tam_quotient.proofs.Places.{same-test, member-passes}
 use Rattle.tam_quotient.proofs.Thirds.{NoneBetween, none-between, none-back, one-after}
@@ -124,36 +124,32 @@ module _ (b : BlockGraph) (graph : IsBlockGraph b) (few : length b.vertices ≤ 
     join-may_merge = same-test (may_join b ps k l) (is_valid b (merged ps k l))
         (λ h. valid-is_valid b (merged ps k l) (join-valid h)) (λ h. valid-join (is_valid-valid b (merged ps k l) h))
 
-  -- ---- whether a partition is valid
+-- ---- whether a partition is valid
 
-  -- numbers that lead to one another are one, where no class leads back to itself through another
-  only_on-one : all_of (leads_only_on b ps) (below (length ps)) ≡ true → (a c : ℕ) → ClassLeads b ps a c → ClassLeads b ps c a → a ≡ c
-  only_on-one h a c p q = elim (leads-within b graph few ps parts a c p) [
-    | inl e ↦ e
-    | inr low ↦ elim (leads-within b graph few ps parts c a q) [ inl e ↦ sym e | inr high ↦ other low high (a == c) refl ]
-  ]
-    where
-      other : c < length ps → a < length ps → (t : Bool) → (a == c) ≡ t → a ≡ c
-      other low high true e = number-eq a c e
-      other low high false e =
-          let n : c ≡ a → ⊥ = λ d. true≢false (sym (eq-number a c (sym d)) ∙ e) in
-          let r = way-member b graph few ps parts least a a c n p q in
-          let i = where-in (λ y. has (ahead_of b ps a) y && has (behind_of b ps a) y) c r.0
-          (sym (has-where (λ y. has (ahead_of b ps a) y && has (behind_of b ps a) y) c r.0) ∙ r.1) in
-          let t : leads_only_on b ps a ≡ true = all-in (leads_only_on b ps) (below (length ps)) h a (below-in a (length ps) high) in
-          let s = all-in (has (with_place a [])) (on_way b graph few ps parts a a) t c i in
-          absurd (n (number-eq c a (sym (has-where (λ y. has [] y || (y == a)) c r.0) ∙ s)))
+-- no edge closes a cycle exactly where the edges between the classes have none
+none-closes : (b : BlockGraph) (ps : Parts) → not (any_of (closes_cycle b ps) b.edges) ≡ has_no_cycle (class_edges ps b.edges)
+none-closes b ps = ap not (same b.edges)
+  where
+    same : (es : Edges) → any_of (closes_cycle b ps) es ≡ any_of (λ e. reaches (class_edges ps b.edges) e.1 e.0) (class_edges ps es)
+    same [] = refl
+    same (e ∷ es) = go (class_of ps e.0 == class_of ps e.1) refl (same es)
+      where
+        go : (t : Bool) → (class_of ps e.0 == class_of ps e.1) ≡ t
+            → any_of (closes_cycle b ps) es ≡ any_of (λ d. reaches (class_edges ps b.edges) d.1 d.0) (class_edges ps es)
+            → any_of (closes_cycle b ps) (e ∷ es) ≡ any_of (λ d. reaches (class_edges ps b.edges) d.1 d.0) (class_edges ps (e ∷ es))
+        go true p i = rw (any_of, closes_cycle, p) i
+        go false p i = step (reaches (class_edges ps b.edges) (class_of ps e.1) (class_of ps e.0)) refl
+          where
+            step : (t : Bool) → reaches (class_edges ps b.edges) (class_of ps e.1) (class_of ps e.0) ≡ t
+                → any_of (closes_cycle b ps) (e ∷ es) ≡ any_of (λ d. reaches (class_edges ps b.edges) d.1 d.0) (class_edges ps (e ∷ es))
+            step true q = rw (any_of, closes_cycle, p, q) refl
+            step false q = rw (any_of, closes_cycle, p, q) i
 
-  -- and where they are one, no class does
-  one-only_on : ((a c : ℕ) → ClassLeads b ps a c → ClassLeads b ps c a → a ≡ c) → all_of (leads_only_on b ps) (below (length ps)) ≡ true
-  one-only_on f = in-all (leads_only_on b ps) (below (length ps)) (λ a h. in-all (has (with_place a [])) (on_way b graph few ps parts a a) (each a))
-    where
-      each : (a x : ℕ) → In x (on_way b graph few ps parts a a) → has (with_place a []) x ≡ true
-      each a x i =
-          let r = member-passes (λ y. has (ahead_of b ps a) y && has (behind_of b ps a) y) x i in
-          let m = member-way b graph few ps parts a a x r.0 (has-where (λ y. has (ahead_of b ps a) y && has (behind_of b ps a) y) x r.0 ∙ r.1) in
-          has-where (λ y. has [] y || (y == a)) x r.0 ∙ eq-number x a (f x a m.1 m.0)
+-- so an edge that closes a cycle makes the partition no valid one
+pub closes-not_valid : (b : BlockGraph) (ps : Parts) → any_of (closes_cycle b ps) b.edges ≡ true → is_valid b ps ≡ false
+closes-not_valid b ps h = rw (is_valid, sym (none-closes b ps) ∙ ap not h) refl
 
+module _ (b : BlockGraph) (graph : IsBlockGraph b) (few : length b.vertices ≤ 128) (ps : Parts) (parts : IsParts (length b.vertices) ps) where
   -- the dependences are kept, where each outlet keeps its own
   outlets-keeps : all_of (keeps_outlet b ps) (places b) ≡ true → Keeps b ps
   outlets-keeps h i o p q l =
@@ -184,16 +180,14 @@ module _ (b : BlockGraph) (graph : IsBlockGraph b) (few : length b.vertices ≤ 
               let k = keeps i o inlet outlet (leads_to-leads b ps (class_of ps i) (class_of ps o) s.1) in
               in-has (dependences b o) i (filter-in (λ j. reaches b.edges j o) i (inlets_of b) inlet k)
 
-  -- so the two tests say whether the partition is valid
-  pub tests-is_valid : (all_of (leads_only_on b ps) (below (length ps)) && all_of (keeps_outlet b ps) (places b)) ≡ is_valid b ps
-  tests-is_valid = same-test (all_of (leads_only_on b ps) (below (length ps)) && all_of (keeps_outlet b ps) (places b)) (is_valid b ps) to back
+  -- and an outlet that doesn't keep its dependences makes it no valid one
+  pub not_kept-not_valid : all_of (keeps_outlet b ps) (places b) ≡ false → is_valid b ps ≡ false
+  not_kept-not_valid h = go (is_valid b ps) refl
     where
-      to : (all_of (leads_only_on b ps) (below (length ps)) && all_of (keeps_outlet b ps) (places b)) ≡ true → is_valid b ps ≡ true
-      to h =
-          let r = both-true (all_of (leads_only_on b ps) (below (length ps))) (all_of (keeps_outlet b ps) (places b)) h in
-          valid-is_valid b ps (record { one = only_on-one r.0; keeps = outlets-keeps r.1 })
+      go : (t : Bool) → is_valid b ps ≡ t → is_valid b ps ≡ false
+      go false p = p
+      go true p = absurd (true≢false (sym (keeps-outlets (is_valid-valid b ps p).keeps) ∙ h))
 
-      back : is_valid b ps ≡ true → (all_of (leads_only_on b ps) (below (length ps)) && all_of (keeps_outlet b ps) (places b)) ≡ true
-      back h =
-          let v = is_valid-valid b ps h in
-          true-both (all_of (leads_only_on b ps) (below (length ps))) (all_of (keeps_outlet b ps) (places b)) (one-only_on v.one) (keeps-outlets v.keeps)
+  -- and where there is neither, it is valid
+  pub tests-valid : any_of (closes_cycle b ps) b.edges ≡ false → all_of (keeps_outlet b ps) (places b) ≡ true → is_valid b ps ≡ true
+  tests-valid h k = rw (is_valid, sym (none-closes b ps) ∙ ap not h) (keeps-kept b ps (outlets-keeps k))

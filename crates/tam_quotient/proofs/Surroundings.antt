@@ -57,7 +57,7 @@ map-same : (f g : ℕ → List ℕ) → ((k : ℕ) → f k ≡ g k) → (xs : Li
 map-same f g h [] = refl
 map-same f g h (x ∷ xs) = ap₂ (λ (y : List ℕ) ys. y ∷ ys) (h x) (map-same f g h xs)
 
-module _ (b : BlockGraph) (graph : IsBlockGraph b) (few : length b.vertices ≤ 128) (ps : Parts) (whole : IsPartition b ps) (least : length ps ≤ 128) where
+module _ (b : BlockGraph) (graph : IsBlockGraph b) (ps : Parts) (whole : IsPartition b ps) (least : length ps ≤ 128) where
   -- the class of each place
   abbrev pub classes : List ℕ
   classes = map (class_of ps) (places b)
@@ -190,3 +190,69 @@ module _ (b : BlockGraph) (graph : IsBlockGraph b) (few : length b.vertices ≤ 
 
         ways-eq : {a c d e f g h j : List ℕ} → a ≡ c → d ≡ e → f ≡ g → h ≡ j → made a d f h ≡ made c e g j
         ways-eq p q r s = cc
+
+  -- ---- the same over lists that are these tables
+
+  -- the ends of the edges have classes
+  pub are_below : (n : ℕ) (es : Edges) (names : List ℕ) → n ≡ length ps → es ≡ b.edges → names ≡ classes → AreBelow n es names
+  are_below n es names p q r =
+      subst (λ m. AreBelow m es names) (sym p) (subst (λ ds. AreBelow (length ps) ds names) (sym q) (subst (λ xs. AreBelow (length ps) b.edges xs) (sym r) classes-below))
+
+  -- the sets are what the classes lead to
+  pub are_leads : (n : ℕ) (es : Edges) (names : List ℕ) (sets : List (List ℕ)) → n ≡ length ps → es ≡ b.edges → names ≡ classes
+      → sets ≡ map (λ k. places_where (reaches (renamed names es) k)) (below n) → sets ≡ leads
+  are_leads n es names sets p q r e =
+      e ∙ (ap (λ m. map (λ k. places_where (reaches (renamed names es) k)) (below m)) p
+      ∙ (ap (λ ds. map (λ k. places_where (reaches (renamed names ds) k)) (below (length ps))) q
+      ∙ (ap (λ xs. map (λ k. places_where (reaches (renamed xs b.edges) k)) (below (length ps))) r ∙ leads-table)))
+
+  -- there are as many as classes
+  pub leads-count : (sets : List (List ℕ)) → sets ≡ leads → length sets ≡ length ps
+  leads-count sets e = ap length e ∙ length-table (ahead_of b ps) (length ps)
+
+  -- each place has a class
+  pub classes-count : (names : List ℕ) → names ≡ classes → length names ≡ length b.vertices
+  classes-count names e = ap length e ∙ length-table (class_of ps) (length b.vertices)
+
+  -- each vertex has its dependences
+  pub depends-count : (sets : List (List ℕ)) → sets ≡ depends → length sets ≡ length b.vertices
+  depends-count sets e = ap length e ∙ length-table (dependences b) (length b.vertices)
+
+  -- the class of each place is one of them
+  pub in_range : (names : List ℕ) (sets : List (List ℕ)) → names ≡ classes → sets ≡ leads → (x : ℕ) → x < length names → get_or names x 0 < length sets
+  in_range names sets p q x h =
+      let n = classes-count names p in
+      let l : x < length b.vertices = omega (arith, h, n) in
+      let r : get_or names x 0 ≡ class_of ps x = ap (λ xs. get_or xs x 0) p ∙ class-at x l in
+      let low : class_of ps x < length ps = whole.in_one x l in
+      let m = leads-count sets q in
+      omega (arith, r, low, m)
+
+  -- the ways read from them are those of the partition
+  pub are_ways : (names : List ℕ) (sets needs : List (List ℕ)) (k : ℕ) → names ≡ classes → sets ≡ leads → needs ≡ depends → k < length ps
+      → ways_to b names sets needs k ≡ ways_of b ps k
+  are_ways names sets needs k p q r h =
+      ap (λ xs. ways_to b xs sets needs k) p ∙ (ap (λ xs. ways_to b classes xs needs k) q ∙ (ap (λ xs. ways_to b classes leads xs k) r ∙ ways-same k h))
+
+-- what stands at the place of a class in the table of ways
+pub way-read : (b : BlockGraph) (ps : Parts) (ways : List Ways) (k : ℕ) (w : Ways) → ways ≡ map (ways_of b ps) (below (length ps)) → k < length ps
+    → w ≡ get_or ways k w → w ≡ ways_of b ps k
+way-read b ps ways k w e h r = r ∙ (ap (λ ws. get_or ws k w) e ∙ get-table (ways_of b ps) (length ps) k w h)
+
+-- there is an entry for each class
+pub ways-count : (b : BlockGraph) (ps : Parts) (ways : List Ways) → ways ≡ map (ways_of b ps) (below (length ps)) → length ways ≡ length ps
+ways-count b ps ways e = ap length e ∙ length-table (ways_of b ps) (length ps)
+
+-- what stands at the place of a vertex in the table of dependences
+pub depends-read : (b : BlockGraph) (needs : List (List ℕ)) (o : ℕ) (xs : List ℕ) → needs ≡ map (dependences b) (places b) → o < length b.vertices
+    → xs ≡ get_or needs o xs → xs ≡ dependences b o
+depends-read b needs o xs e h r = r ∙ (ap (λ ys. get_or ys o xs) e ∙ get-table (dependences b) (length b.vertices) o xs h)
+
+-- both ends of an edge have classes
+pub edge-classes : (b : BlockGraph) → IsBlockGraph b → (ps : Parts) → IsPartition b ps → (es : Edges) (i : ℕ) → es ≡ b.edges → i < length b.edges
+    → (class_of ps (get_or es i (0, 0)).0 < length ps) × (class_of ps (get_or es i (0, 0)).1 < length ps)
+edge-classes b graph ps whole es i e h =
+    let own : ℕ × ℕ = get_or b.edges i (0, 0) in
+    let r = edge-within b graph own (get-in b.edges i own (slice_get-get_or b.edges i (0, 0) h)) in
+    let P : ℕ × ℕ → Type 0 = λ d. (class_of ps d.0 < length ps) × (class_of ps d.1 < length ps) in
+    subst P (ap (λ ds. get_or ds i (0, 0)) (sym e)) (whole.in_one own.0 r.0, whole.in_one own.1 r.1)

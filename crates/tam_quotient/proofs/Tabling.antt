@@ -2,11 +2,11 @@
 use Rattle.std.proofs.Common.{◌≡◌, ℕ, zero, suc, ◌+◌, ◌<◌, ◌≤◌, List, [], ◌∷◌, ◌++◌, Bool, true, false, ◌&&◌, ◌||◌, refl, sym, ap, subst, arith, ◌∙◌, true≢false, ◌==◌}
 use Rattle.std.proofs.Common.{length, map, get_or, take, slice_get, nat_lt, tests, inl, inr}
 use Rattle.std.proofs.lemmas.List.{map-append, get_or-map, ext_get_or, take_more}
-use Rattle.std.proofs.lemmas.Option.{get_or_from_slice_get}
+use Rattle.std.proofs.lemmas.Option.{get_or_from_slice_get, slice_get-get_or}
 use Rattle.std.specs.List.{list_any}
 use Rattle.tam_word.specs.Lists.{below, all_of, any_of, has}
 use Rattle.tam_word.proofs.Tests.{number-eq, eq-number, both-true, true-both}
-use Rattle.tam_word.proofs.Members.{In, in-has, has-in}
+use Rattle.tam_word.proofs.Members.{In, in-has, has-in, in-any, get-in}
 use Rattle.tam_graph.specs.Edges.{Edges, reaches}
 use Rattle.tam_split.specs.declared.vertex.Vertex.{Vertex}
 use Rattle.tam_split.specs.Blocks.{BlockGraph, vertex_at, or_vertex}
@@ -64,6 +64,15 @@ get-table f n k d h =
 pub table-is : (sets : List (List ℕ)) (f : ℕ → List ℕ) (n : ℕ) → length sets ≡ n → ((k : ℕ) → k < n → set_at sets k ≡ f k) → sets ≡ map f (below n)
 table-is sets f n e h = ext_get_or [] sets (map f (below n)) (e ∙ sym (length-table f n))
     (λ k l. let m : k < n = omega (arith, l, e) in h k m ∙ sym (get-table f n k [] m))
+
+-- where the pair at a place passes, any does
+pub any-at : (test : ℕ × ℕ → Bool) (es : Edges) (i : ℕ) → i < length es → test (get_or es i (0, 0)) ≡ true → any_of test es ≡ true
+any-at test es i h k = in-any test es (get_or es i (0, 0)) (get-in es i (get_or es i (0, 0)) (slice_get-get_or es i (0, 0) h)) k
+
+-- and where none at a place passes, none does
+pub none-at : (test : ℕ × ℕ → Bool) (es : Edges) → ((i : ℕ) → i < length es → test (get_or es i (0, 0)) ≡ false) → any_of test es ≡ false
+none-at test [] h = refl
+none-at test (e ∷ es) h = rw (any_of, h 0 (omega arith)) (none-at test es (λ i l. h (suc i) (omega arith)))
 
 -- ---- classes
 

@@ -1,8 +1,8 @@
 -- Tests over the ways to classes and from them.
-use Rattle.std.specs.Prelude.{ℕ, Bool, ◌&&◌, List, []}
+use Rattle.std.specs.Prelude.{ℕ, Bool, ◌&&◌, List}
 use Rattle.tam_split.specs.Blocks.{BlockGraph}
 use Rattle.tam_split.specs.Partitions.{Parts}
-use Rattle.tam_sets.specs.Sets.{with_place, met, joined, is_within}
+use Rattle.tam_sets.specs.Sets.{met, joined, is_within}
 use Rattle.tam_quotient.specs.Quotients.{ahead_of, behind_of, entering_of, allowed_of, pair_of}
 use Rattle.tam_quotient.specs.Tables.{set_at, column, entered, permitted}
 use Rattle.tam_quotient.specs.declared.ways.Ways.{Ways}
@@ -27,7 +27,3 @@ has_none_between k l one other = is_within (joined (met one.ahead other.behind) 
 -- no outlet gets a dependence where the two are made one, and no third class stands between them
 abbrev pub are_joinable : ℕ → ℕ → Ways → Ways → Bool
 are_joinable k l one other = is_within one.entering other.allowed && is_within other.entering one.allowed && has_none_between k l one other
-
--- the class leads to no other that leads back to it
-abbrev pub leads_on : ℕ → Ways → Bool
-leads_on k ways = is_within (met ways.ahead ways.behind) (with_place k [])

@@ -1,5 +1,5 @@
 -- The classes of a partition among one another: what a class leads to, what leads to it, and with which it may be made one.
-use Rattle.std.specs.Prelude.{ℕ, Bool, true, false, ◌&&◌, nat_lt, List, [], length}
+use Rattle.std.specs.Prelude.{ℕ, Bool, true, false, ◌&&◌, not, ◌==◌, nat_lt, List, [], length}
 use Rattle.tam_word.specs.Lists.{all_of}
 use Rattle.tam_graph.specs.Edges.{reaches}
 use Rattle.tam_split.specs.Blocks.{BlockGraph, vertex_at, places, dependences}
@@ -40,9 +40,9 @@ may_join b ps k l =
     is_within (entering_of b ps k) (allowed_of b ps l) && is_within (entering_of b ps l) (allowed_of b ps k)
     && is_within (joined (met (ahead_of b ps k) (behind_of b ps l)) (met (ahead_of b ps l) (behind_of b ps k))) (pair_of k l)
 
--- no other class is led to by class k and leads to it
-abbrev pub leads_only_on : BlockGraph → Parts → ℕ → Bool
-leads_only_on b ps k = is_within (met (ahead_of b ps k) (behind_of b ps k)) (with_place k [])
+-- the edge runs between two classes of which the second leads to the first
+abbrev pub closes_cycle : BlockGraph → Parts → ℕ × ℕ → Bool
+closes_cycle b ps e = not (class_of ps e.0 == class_of ps e.1) && leads_to b.edges ps (class_of ps e.1) (class_of ps e.0)
 
 -- where the vertex is an outlet, it depends on the inlets whose classes lead to its class
 abbrev pub keeps_outlet : BlockGraph → Parts → ℕ → Bool

@@ -45,6 +45,7 @@ pub(crate) fn classes_of(alloc: Global, b: &BlockGraph, p: &Parts) -> Result<Vec
 pub(crate) fn class_of(p: &Parts, place: u32) -> u32
     requires there { class_of p.now place < length p.now }
     ensures value { result ≡ class_of p.now place }
+    ensures small { result < 128 }
 {
     for k in 0..p.classes() {
         if has(p.class(k), place) {

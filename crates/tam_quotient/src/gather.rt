@@ -31,7 +31,9 @@ pub fn quotient(
     let mut ways = Vec::new(alloc);
     for k in 0..p.classes() {
         let way = ways_to(b, &classes, &leads, depends, k);
-        ways.push(way).map_err(|_| NoMemory)?;
+        if ways.push(way).is_err() {
+            return Err(NoMemory);
+        }
     }
     Ok(ways)
 }

@@ -1,10 +1,10 @@
 // Whether a partition is valid.
-ghost use Rattle.std.specs.Prelude.{◌≡◌, ◌<◌, length, map};
+ghost use Rattle.std.specs.Prelude.{◌≡◌, ◌<◌, length, map, slice_index_or};
 ghost use Rattle.tam_word.specs.Lists.{below};
 ghost use Rattle.tam_split.specs.Blocks.{places, dependences};
 ghost use Rattle.tam_split.specs.PartitionLaws.{IsPartition};
 ghost use Rattle.tam_split.specs.Partitions.{is_valid};
-ghost use Rattle.tam_quotient.specs.Quotients.{keeps_outlet};
+ghost use Rattle.tam_quotient.specs.Quotients.{closes_cycle, keeps_outlet};
 ghost use Rattle.tam_quotient.specs.Joins.{ways_of};
 
 use crate::Ways;
@@ -20,8 +20,8 @@ pub fn is_valid(b: &BlockGraph, depends: &[Set], p: &Parts, ways: &[Ways]) -> bo
     requires ways { ways.now ≡ map (ways_of b.now p.now) (below (length p.now)) }
     ensures value { result ≡ is_valid b.now p.now }
 {
-    for k in 0..p.classes() {
-        if !ways[k as usize].leads_on(k) {
+    for edge in 0..b.edges().len() {
+        if closes_cycle(b, p, ways, edge) {
             return false;
         }
     }
@@ -31,6 +31,19 @@ pub fn is_valid(b: &BlockGraph, depends: &[Set], p: &Parts, ways: &[Ways]) -> bo
         }
     }
     true
+}
+
+// Whether an edge runs between two classes of which the second leads to the first.
+fn closes_cycle(b: &BlockGraph, p: &Parts, ways: &[Ways], edge: usize) -> bool
+    requires whole { IsPartition b.now p.now }
+    requires ways { ways.now ≡ map (ways_of b.now p.now) (below (length p.now)) }
+    requires in_range { edge < length b.now.edges }
+    ensures value { result ≡ closes_cycle b.now p.now (slice_index_or b.now.edges edge (0, 0)) }
+{
+    let (from, to) = b.edges()[edge];
+    let start = class_of(p, from);
+    let end = class_of(p, to);
+    start != end && ways[end as usize].ahead.has(start)
 }
 
 // Whether the vertex is no outlet, or depends on each inlet whose class leads to its class. On any other inlet it doesn't depend, since

@@ -16,7 +16,7 @@ pub struct Ways {
 
 impl Ways {
     ghost use Rattle.std.specs.Prelude.{◌≡◌, ◌<◌};
-    ghost use Rattle.tam_quotient.specs.Joins.{are_joinable, has_none_between, leads_on};
+    ghost use Rattle.tam_quotient.specs.Joins.{are_joinable, has_none_between};
 
     /// Whether the classes k and l, of these ways, may be made one: no outlet gets a dependence by that, and no third class stands on
     /// a way from one of them to the other.
@@ -40,15 +40,5 @@ impl Ways {
         let there = self.ahead.meet(&other.behind);
         let back = other.ahead.meet(&self.behind);
         there.join(&back).within(&pair)
-    }
-
-    /// Whether class k, of these ways, leads to no other class that leads back to it.
-    pub fn leads_on(&self, k: u32) -> bool
-        requires in_range { k < 128 }
-        ensures value { result ≡ leads_on k self.now }
-    {
-        let mut alone = Set::empty();
-        alone.insert(k);
-        self.ahead.meet(&self.behind).within(&alone)
     }
 }

@@ -1,0 +1,1 @@
+// Partitions worked by hand.

@@ -2,7 +2,7 @@
 use Rattle.std.specs.Prelude.{ℕ, ◌+◌, ◌^◌, ◌<◌, Bool, ◌==◌, List, [], ◌∷◌}
 use Rattle.std.specs.Int.{bit_at}
 use Rattle.tam_sets.specs.Sets.{places_where}
-use Rattle.tam_sets.specs.declared.TheConstants.{PLACES}
+use Rattle.tam_sets.specs.declared.set.TheConstants.{PLACES}
 use Rattle.tam_sets.specs.declared.set.Set.TheInside.{Inside}
 
 -- the number has the bit of a place

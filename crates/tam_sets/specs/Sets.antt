@@ -1,11 +1,15 @@
 -- Sets of places as rising lists of their members.
 use Rattle.std.specs.Prelude.{ℕ, Bool, ◌&&◌, ◌||◌, ◌==◌, List, filter}
 use Rattle.tam_word.specs.Lists.{below, all_of, has}
-use Rattle.tam_sets.specs.declared.TheConstants.{PLACES}
+use Rattle.tam_sets.specs.declared.set.TheConstants.{PLACES}
+
+-- the numbers of all places
+unfoldable pub place_numbers : List ℕ
+place_numbers = below PLACES
 
 -- the places that pass a test, rising
 unfoldable pub places_where : (ℕ → Bool) → List ℕ
-places_where test = filter test (below PLACES)
+places_where test = filter test place_numbers
 
 -- the members of a set and one place more
 abbrev pub with_place : ℕ → List ℕ → List ℕ

@@ -21,7 +21,7 @@ impl Model for Set {
     ghost Value = { List ℕ };
 
     ghost use Rattle.tam_sets.specs.Bits.{members_of, set_of, IsWithinWidth};
-    ghost use Rattle.tam_sets.proofs.SetBits.{members-back};
+    ghost use Rattle.tam_sets.specs.BitsBack.{members-back};
 
     ghost view = { members_of };
 

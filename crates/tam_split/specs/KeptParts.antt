@@ -1,7 +1,7 @@
 -- What the types of a block's graph and of its classes keep, and how the classes are stored.
-use Rattle.std.specs.Prelude.{ℕ, ◌≡◌, ◌<◌, ◌≤◌, ◌+◌, Bool, true, ◌&&◌, nat_lt, List, [], ◌∷◌, map, length, slice_index, slice_range, IsTrue}
+use Rattle.std.specs.Prelude.{ℕ, ◌≡◌, ◌<◌, ◌≤◌, ◌+◌, Bool, true, ◌&&◌, nat_lt, List, [], ◌∷◌, ◌++◌, map, length, take, drop, slice_index, slice_range, IsTrue}
 use Rattle.std.specs.List.{concat}
-use Rattle.tam_word.specs.Lists.{all_of, has}
+use Rattle.tam_word.specs.Lists.{all_of, has, merge_rising}
 use Rattle.tam_split.specs.Blocks.{BlockGraph}
 use Rattle.tam_split.specs.PartitionLaws.{IsBlockGraph}
 use Rattle.tam_split.specs.Partitions.{Parts, class_of, class_at}
@@ -47,3 +47,14 @@ pub record AreFlat (ps : Parts) (places ends : List ℕ) : Type 0 where
   pub places_of : places ≡ concat ps
   pub ends_of : ends ≡ ends_from 0 ps
   pub classes : AreClasses ps
+
+-- rising lists without a number in common
+pub record AreApart (xs ys : List ℕ) : Type 0 where
+  pub first : is_rising xs ≡ true
+  pub second : is_rising ys ≡ true
+  pub none_in_both : (x : ℕ) → has xs x ≡ true → has ys x ≡ true → ⊥
+
+-- a list in which the run from `start` to `end` is merged into the run from `from` to `middle`, and what stands between them follows
+abbrev pub with_joined : List ℕ → ℕ → ℕ → ℕ → ℕ → List ℕ
+with_joined xs from middle start end =
+    take from xs ++ (merge_rising (slice_range xs from middle) (slice_range xs start end) ++ (slice_range xs middle start ++ drop end xs))

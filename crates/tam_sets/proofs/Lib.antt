@@ -1,0 +1,2 @@
+pub mod PlacesWhere
+pub mod SetBits

@@ -1,14 +1,15 @@
 -- The places of the vertices that pass a test, and what is kept of other places.
-use Rattle.std.proofs.Common.{◌≡◌, ℕ, zero, suc, ◌+◌, ◌<◌, ◌≤◌, Bool, true, false, ◌&&◌, ◌||◌, ◌==◌, nat_lt, List, [], ◌∷◌, ◌++◌, map, filter, get_or, length, slice_get, refl, sym, ap, ap₂, subst, ◌∙◌, arith, tests, inl, inr, ◌⊎◌}
+use Rattle.std.proofs.Common.{◌≡◌, ℕ, zero, suc, ◌+◌, ◌<◌, ◌≤◌, Bool, true, false, ◌&&◌, ◌||◌, ◌==◌, nat_lt, List, [], ◌∷◌, ◌++◌, map, filter, drop, get_or, length, slice_get, refl, sym, ap, ap₂, subst, ◌∙◌, arith, tests, inl, inr, ◌⊎◌}
 use Rattle.std.proofs.lemmas.List.{append-nil}
 use Rattle.std.proofs.lemmas.List.Elements.{filter-append}
 use Rattle.tam_word.specs.Lists.{below, has}
 use Rattle.tam_word.proofs.Tests.{below-test, number-eq}
 use Rattle.tam_word.proofs.Members.{In, in-below}
-use Rattle.tam_graph.specs.Edges.{reaches}
+use Rattle.tam_graph.specs.Edges.{Edges, reaches}
 use Rattle.tam_sets.specs.declared.set.TheConstants.{PLACES}
 use Rattle.tam_sets.specs.Sets.{places_where, with_place, met}
-use Rattle.tam_sets.proofs.PlacesWhere.{places-same, has-where, has-beyond, where-none, where-filter, all-places}
+use Rattle.tam_sets.specs.BitsBack.{all-places, where-filter}
+use Rattle.tam_sets.proofs.PlacesWhere.{places-same, has-where, has-beyond, where-none}
 use Rattle.tam_split.specs.declared.vertex.Vertex.{Vertex}
 use Rattle.tam_split.specs.Blocks.{BlockGraph, or_vertex, vertex_at, inlets_of, outlets_of, places, dependences, demands}
 use Rattle.tam_reach.specs.Reached.{places_that}
@@ -100,7 +101,7 @@ filter-twice f g (x ∷ xs) = go (g x) refl (f x) refl (filter-twice f g xs)
 -- tests that agree below n keep the same numbers below n, and a test that fails from n on keeps no others
 filter-within : (f g : ℕ → Bool) (n : ℕ) → ((x : ℕ) → x < n → f x ≡ g x) → ((x : ℕ) → n ≤ x → g x ≡ false) → (m : ℕ) → n ≤ m → filter f (below n) ≡ filter g (below m)
 filter-within f g n same none zero h = ap (filter f) (ap below (let e : n ≡ 0 = omega arith in e))
-filter-within f g n same none (suc m) h = go (cases n m)
+filter-within f g n same none (suc m) h = go (cases n m) (filter-within f g n same none m)
   where
     cases : (a b : ℕ) → (a ≤ b) ⊎ (b < a)
     cases a b = grind arith
@@ -113,13 +114,13 @@ filter-within f g n same none (suc m) h = go (cases n m)
         at true p q i = rw (q, p) (ap (λ ys. x ∷ ys) i)
         at false p q i = rw (q, p) i
 
-    go : (n ≤ m) ⊎ (m < n) → filter f (below n) ≡ filter g (below (suc m))
-    go (inl l) =
-        filter-within f g n same none m l ∙ (sym (append-nil (filter g (below m))) ∙ (ap (λ ys. filter g (below m) ++ ys) (sym last) ∙ sym (filter-append g (below m) (m ∷ []))))
+    go : (n ≤ m) ⊎ (m < n) → (n ≤ m → filter f (below n) ≡ filter g (below m)) → filter f (below n) ≡ filter g (below (suc m))
+    go (inl l) i =
+        i l ∙ (sym (append-nil (filter g (below m))) ∙ (ap (λ ys. filter g (below m) ++ ys) (sym last) ∙ sym (filter-append g (below m) (m ∷ []))))
       where
         last : filter g (m ∷ []) ≡ []
         last = rw (none m l) refl
-    go (inr l) = let e : n ≡ suc m = omega arith in agree (below n) (λ x i. same x (in-below x n i)) ∙ ap (λ k. filter g (below k)) e
+    go (inr l) i = let e : n ≡ suc m = omega arith in agree (below n) (λ x j. same x (in-below x n j)) ∙ ap (λ k. filter g (below k)) e
 
 -- a number is below another or isn't
 below-or_not : (x n : ℕ) → (x < n) ⊎ (x < n → ⊥)
@@ -139,8 +140,8 @@ kept-places f test vs few =
     let all = all-places in
     let room : length vs ≤ all.count = let e = all.is in omega arith in
     where-filter kept all.count all.numbers
-        ∙ sym (filter-twice f (λ x. test (or_vertex (slice_get vs x))) (below (length vs))
-        ∙ filter-within (λ x. f x && test (or_vertex (slice_get vs x))) kept (length vs) (λ x l. sym (inside x l)) beyond all.count room)
+    ∙ sym (filter-twice f (λ x. test (or_vertex (slice_get vs x))) (below (length vs))
+    ∙ filter-within (λ x. f x && test (or_vertex (slice_get vs x))) kept (length vs) (λ x l. sym (inside x l)) beyond all.count room)
   where
     listed : ℕ → Bool
     listed x = nat_lt x (length vs) && test (or_vertex (slice_get vs x))
@@ -173,15 +174,35 @@ pub kept-dependences : (b : BlockGraph) (sets : List (List ℕ)) → length b.ve
     → map (λ set. met set (places_that (λ v. v.inlet) b.vertices)) sets ≡ map (dependences b) (places b)
 kept-dependences b sets few e =
     ap (map (λ set. met set (places_that (λ v. v.inlet) b.vertices))) e
-        ∙ (map-twice (λ set. met set (places_that (λ v. v.inlet) b.vertices)) (reaching b.edges) (below (length b.vertices))
-        ∙ map-below (λ y. met (reaching b.edges y) (places_that (λ v. v.inlet) b.vertices)) (dependences b) (length b.vertices)
-        (λ y l. kept-places (λ x. reaches b.edges x y) (λ v. v.inlet) b.vertices few))
+    ∙ (map-twice (λ set. met set (places_that (λ v. v.inlet) b.vertices)) (reaching b.edges) (below (length b.vertices))
+    ∙ map-below (λ y. met (reaching b.edges y) (places_that (λ v. v.inlet) b.vertices)) (dependences b) (length b.vertices)
+    (λ y l. kept-places (λ x. reaches b.edges x y) (λ v. v.inlet) b.vertices few))
 
 -- and their demands
 pub kept-demands : (b : BlockGraph) (sets : List (List ℕ)) → length b.vertices ≤ PLACES → sets ≡ map (reached b.edges) (below (length b.vertices))
     → map (λ set. met set (places_that (λ v. v.outlet) b.vertices)) sets ≡ map (demands b) (places b)
 kept-demands b sets few e =
     ap (map (λ set. met set (places_that (λ v. v.outlet) b.vertices))) e
-        ∙ (map-twice (λ set. met set (places_that (λ v. v.outlet) b.vertices)) (reached b.edges) (below (length b.vertices))
-        ∙ map-below (λ x. met (reached b.edges x) (places_that (λ v. v.outlet) b.vertices)) (demands b) (length b.vertices)
-        (λ x l. kept-places (λ y. reaches b.edges x y) (λ v. v.outlet) b.vertices few))
+    ∙ (map-twice (λ set. met set (places_that (λ v. v.outlet) b.vertices)) (reached b.edges) (below (length b.vertices))
+    ∙ map-below (λ x. met (reached b.edges x) (places_that (λ v. v.outlet) b.vertices)) (demands b) (length b.vertices)
+    (λ x l. kept-places (λ y. reaches b.edges x y) (λ v. v.outlet) b.vertices few))
+
+-- what `depends` gives in the end
+pub depends-end : (b : BlockGraph) (vs : List Vertex) (es : Edges) (k : ℕ) (sets news : List (List ℕ)) (ins : List ℕ) → vs ≡ b.vertices → es ≡ b.edges
+    → length b.vertices ≤ PLACES → k ≡ 0 → sets ≡ map (reaching (drop k es)) (below (length vs)) → ins ≡ places_that (λ v. v.inlet) vs
+    → news ≡ map (λ set. met set ins) sets → news ≡ map (dependences b) (places b)
+depends-end b vs es k sets news ins p q few z before i after =
+    let first : drop k es ≡ b.edges = ap (λ n. drop n es) z ∙ q in
+    let all : sets ≡ map (reaching b.edges) (below (length b.vertices)) = before ∙ ap₂ (λ (fs : Edges) (ws : List Vertex). map (reaching fs) (below (length ws))) first p in
+    let kept : ins ≡ places_that (λ v. v.inlet) b.vertices = i ∙ ap (λ (ws : List Vertex). places_that (λ v. v.inlet) ws) p in
+    after ∙ (ap (λ (os : List ℕ). map (λ (set : List ℕ). met set os) sets) kept ∙ kept-dependences b sets few all)
+
+-- and `demands`
+pub demands-end : (b : BlockGraph) (vs : List Vertex) (es : Edges) (k : ℕ) (sets news : List (List ℕ)) (outs : List ℕ) → vs ≡ b.vertices → es ≡ b.edges
+    → length b.vertices ≤ PLACES → k ≡ 0 → sets ≡ map (reached (drop k es)) (below (length vs)) → outs ≡ places_that (λ v. v.outlet) vs
+    → news ≡ map (λ set. met set outs) sets → news ≡ map (demands b) (places b)
+demands-end b vs es k sets news outs p q few z before i after =
+    let first : drop k es ≡ b.edges = ap (λ n. drop n es) z ∙ q in
+    let all : sets ≡ map (reached b.edges) (below (length b.vertices)) = before ∙ ap₂ (λ (fs : Edges) (ws : List Vertex). map (reached fs) (below (length ws))) first p in
+    let kept : outs ≡ places_that (λ v. v.outlet) b.vertices = i ∙ ap (λ (ws : List Vertex). places_that (λ v. v.outlet) ws) p in
+    after ∙ (ap (λ (os : List ℕ). map (λ (set : List ℕ). met set os) sets) kept ∙ kept-demands b sets few all)

@@ -7,6 +7,7 @@ use Rattle.tam_word.proofs.Members.{In, all-in, in-below}
 use Rattle.tam_graph.specs.Edges.{Edges, reaches}
 use Rattle.tam_sets.specs.Sets.{places_where, joined}
 use Rattle.tam_sets.proofs.PlacesWhere.{places-same, has-where}
+use Rattle.tam_split.specs.declared.vertex.Vertex.{Vertex}
 use Rattle.tam_split.specs.Blocks.{BlockGraph}
 use Rattle.tam_split.specs.PartitionLaws.{IsBlockGraph}
 use Rattle.tam_reach.specs.Reached.{spread_into}
@@ -42,7 +43,7 @@ length-map-below f (suc n) = ap length (map-append f (below n) (n ∷ [])) ∙ (
 -- what stands at a place
 pub get-map-below : (f : ℕ → List ℕ) (n k : ℕ) (d : List ℕ) → k < n → get_or (map f (below n)) k d ≡ f k
 get-map-below f zero k d h = absurd (omega arith)
-get-map-below f (suc n) k d h = ap (λ l. get_or l k d) (map-append f (below n) (n ∷ [])) ∙ go (cases k)
+get-map-below f (suc n) k d h = ap (λ l. get_or l k d) (map-append f (below n) (n ∷ [])) ∙ go (cases k) (get-map-below f n k d)
   where
     cases : (j : ℕ) → (j < n) ⊎ (n ≤ j)
     cases j = grind arith
@@ -58,9 +59,9 @@ get-map-below f (suc n) k d h = ap (λ l. get_or l k d) (map-append f (below n) 
     last (y ∷ ys) x zero e = absurd (omega arith)
     last (y ∷ ys) x (suc j) e = last ys x j (omega arith)
 
-    go : (k < n) ⊎ (n ≤ k) → get_or (map f (below n) ++ f n ∷ []) k d ≡ f k
-    go (inl l) = left (map f (below n)) (f n) k (let e = length-map-below f n in omega arith) ∙ get-map-below f n k d l
-    go (inr l) =
+    go : (k < n) ⊎ (n ≤ k) → (k < n → get_or (map f (below n)) k d ≡ f k) → get_or (map f (below n) ++ f n ∷ []) k d ≡ f k
+    go (inl l) i = left (map f (below n)) (f n) k (let e = length-map-below f n in omega arith) ∙ i l
+    go (inr l) i =
         let e : k ≡ n = omega arith in
         last (map f (below n)) (f n) k (e ∙ sym (length-map-below f n)) ∙ ap f (sym e)
 
@@ -133,9 +134,17 @@ edge-inside b block k d h =
     there (f ∷ es) zero l = inl refl
     there (f ∷ es) (suc j) l = inr (there es j (omega arith))
 
+-- as the code reads it
+pub edge-read : (b : BlockGraph) → IsBlockGraph b → (vs : List Vertex) (es : Edges) → vs ≡ b.vertices → es ≡ b.edges → (k : ℕ) (d : ℕ × ℕ) → k < length es
+    → ((get_or es k d).0 < length vs) × ((get_or es k d).1 < length vs)
+edge-read b block vs es p q k d h =
+    let in_es : ((get_or es k d).0 < length b.vertices) × ((get_or es k d).1 < length b.vertices) =
+    subst (λ (fs : Edges). k < length fs → ((get_or fs k d).0 < length b.vertices) × ((get_or fs k d).1 < length b.vertices)) (sym q) (edge-inside b block k d) h in
+    subst (λ (ws : List Vertex). ((get_or es k d).0 < length ws) × ((get_or es k d).1 < length ws)) (sym p) in_es
+
 -- the edge at a place, before those behind it
-pub edge-next : (es : Edges) (k : ℕ) (d e : ℕ × ℕ) → k < length es → e ≡ get_or es k d → drop k es ≡ e ∷ drop (k + 1) es
-edge-next es k d e h p = drop_more es k d h ∙ ap (λ f. f ∷ drop (k + 1) es) (sym p)
+pub edge-next : (es : Edges) (k j : ℕ) (d : ℕ × ℕ) → k < length es → j ≡ k + 1 → drop k es ≡ get_or es k d ∷ drop j es
+edge-next es k j d h e = drop_more es k d h ∙ ap (λ n. get_or es k d ∷ drop n es) (sym e)
 
 -- a step of `depends`
 pub depends-step : (n : ℕ) (es fs : Edges) (e : ℕ × ℕ) (olds news : List (List ℕ)) → n ≤ 128 → fs ≡ e ∷ es → e.0 < n → e.1 < n
@@ -143,10 +152,10 @@ pub depends-step : (n : ℕ) (es fs : Edges) (e : ℕ × ℕ) (olds news : List 
 depends-step n es fs e olds news few next s t before after =
     let more : get_or olds e.0 [] ≡ reaching es e.0 = ap (λ l. get_or l e.0 []) before ∙ get-map-below (reaching es) n e.0 [] s in
     after
-        ∙ (ap₂ (λ m l. map (spread_into e.1 m) l) more before
-        ∙ (map-twice (spread_into e.1 (reaching es e.0)) (reaching es) (below n)
-        ∙ (map-below (λ y. spread_into e.1 (reaching es e.0) (reaching es y)) (reaching (e ∷ es)) n (λ y l. spread-reaching e es y (omega arith))
-        ∙ ap (λ gs. map (reaching gs) (below n)) (sym next))))
+    ∙ (ap₂ (λ m l. map (spread_into e.1 m) l) more before
+    ∙ (map-twice (spread_into e.1 (reaching es e.0)) (reaching es) (below n)
+    ∙ (map-below (λ y. spread_into e.1 (reaching es e.0) (reaching es y)) (reaching (e ∷ es)) n (λ y l. spread-reaching e es y (omega arith))
+    ∙ ap (λ gs. map (reaching gs) (below n)) (sym next))))
 
 -- a step of `demands`
 pub demands-step : (n : ℕ) (es fs : Edges) (e : ℕ × ℕ) (olds news : List (List ℕ)) → n ≤ 128 → fs ≡ e ∷ es → e.0 < n → e.1 < n
@@ -154,10 +163,10 @@ pub demands-step : (n : ℕ) (es fs : Edges) (e : ℕ × ℕ) (olds news : List 
 demands-step n es fs e olds news few next s t before after =
     let more : get_or olds e.1 [] ≡ reached es e.1 = ap (λ l. get_or l e.1 []) before ∙ get-map-below (reached es) n e.1 [] t in
     after
-        ∙ (ap₂ (λ m l. map (spread_into e.0 m) l) more before
-        ∙ (map-twice (spread_into e.0 (reached es e.1)) (reached es) (below n)
-        ∙ (map-below (λ x. spread_into e.0 (reached es e.1) (reached es x)) (reached (e ∷ es)) n (λ x l. spread-reached e es x (omega arith))
-        ∙ ap (λ gs. map (reached gs) (below n)) (sym next))))
+    ∙ (ap₂ (λ m l. map (spread_into e.0 m) l) more before
+    ∙ (map-twice (spread_into e.0 (reached es e.1)) (reached es) (below n)
+    ∙ (map-below (λ x. spread_into e.0 (reached es e.1) (reached es x)) (reached (e ∷ es)) n (λ x l. spread-reached e es x (omega arith))
+    ∙ ap (λ gs. map (reached gs) (below n)) (sym next))))
 
 -- before the first edge
 pub alone-reaching : (n : ℕ) (es : Edges) (k : ℕ) → length es ≤ k → map (λ y. places_where (λ x. x == y)) (below n) ≡ map (reaching (drop k es)) (below n)
@@ -166,7 +175,7 @@ alone-reaching n es k h = ap (λ fs. map (reaching fs) (below n)) (sym (drop_all
 pub alone-reached : (n : ℕ) (es : Edges) (k : ℕ) → length es ≤ k → map (λ x. places_where (λ y. y == x)) (below n) ≡ map (reached (drop k es)) (below n)
 alone-reached n es k h =
     map-below (λ x. places_where (λ y. y == x)) (reached []) n (λ x l. places-same (λ y. y == x) (λ y. x == y) (λ y m. turned y x))
-        ∙ ap (λ fs. map (reached fs) (below n)) (sym (drop_all k es h))
+    ∙ ap (λ fs. map (reached fs) (below n)) (sym (drop_all k es h))
   where
     turned : (y x : ℕ) → (y == x) ≡ (x == y)
     turned y x = grind (arith, tests)

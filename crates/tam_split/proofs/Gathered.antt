@@ -24,8 +24,8 @@ vertices-next : (c : Code) (b n : ℕ) (t : Bool) → (block_at c n == b) ≡ t
 vertices-next c b n t e =
     let one : filter (λ x. block_at c x == b) (n ∷ []) ≡ cond t (n ∷ []) [] = ap (λ s. cond s (n ∷ []) []) e in
     ap (vertices_up_to c b) (add-one n)
-        ∙ (ap (flat_map (λ x. vertices_of x (kind_at c x))) (filter-append (λ x. block_at c x == b) (below n) (n ∷ []) ∙ ap (λ xs. filter (λ x. block_at c x == b) (below n) ++ xs) one)
-        ∙ flat_map-append (λ x. vertices_of x (kind_at c x)) (filter (λ x. block_at c x == b) (below n)) (cond t (n ∷ []) []))
+    ∙ (ap (flat_map (λ x. vertices_of x (kind_at c x))) (filter-append (λ x. block_at c x == b) (below n) (n ∷ []) ∙ ap (λ xs. filter (λ x. block_at c x == b) (below n) ++ xs) one)
+    ∙ flat_map-append (λ x. vertices_of x (kind_at c x)) (filter (λ x. block_at c x == b) (below n)) (cond t (n ∷ []) []))
 
 -- a node of the block adds its vertices
 pub vertices-more : (c : Code) (b n : ℕ) → block_at c n ≡ b → vertices_up_to c b (n + 1) ≡ vertices_up_to c b n ++ vertices_of n (kind_at c n)
@@ -80,8 +80,8 @@ edges-next c vs u n d h t e =
     let g : ℕ × Vertex → ℕ × ℕ = λ v. (u.0, v.0) in
     let one : map g (filter f ((n, get_or vs n d) ∷ [])) ≡ cond t ((u.0, n) ∷ []) [] = last t e in
     ap (λ rs. map g (filter f rs)) (placed-more vs n d h)
-        ∙ (ap (map g) (filter-append f (placed_from 0 (take n vs)) ((n, get_or vs n d) ∷ []))
-        ∙ (map-append g (filter f (placed_from 0 (take n vs))) (filter f ((n, get_or vs n d) ∷ [])) ∙ ap (λ rs. edges_up_to c vs u n ++ rs) one))
+    ∙ (ap (map g) (filter-append f (placed_from 0 (take n vs)) ((n, get_or vs n d) ∷ []))
+    ∙ (map-append g (filter f (placed_from 0 (take n vs))) (filter f ((n, get_or vs n d) ∷ [])) ∙ ap (λ rs. edges_up_to c vs u n ++ rs) one))
   where
     last : (s : Bool) → feeds c u.1 (get_or vs n d) ≡ s → map {B = ℕ × ℕ} (λ (v : ℕ × Vertex). (u.0, v.0)) (filter (λ (v : ℕ × Vertex). feeds c u.1 v.1) ((n, get_or vs n d) ∷ [])) ≡ cond s ((u.0, n) ∷ []) []
     last true p = rw p refl
@@ -106,8 +106,8 @@ pub first-more : (c : Code) (vs : List Vertex) (n : ℕ) (d : Vertex) → n < le
     → edges_of_first c vs (n + 1) ≡ edges_of_first c vs n ++ edges_from c (placed_from 0 vs) (n, get_or vs n d)
 first-more c vs n d h =
     ap (flat_map (edges_from c (placed_from 0 vs))) (placed-more vs n d h)
-        ∙ (flat_map-append (edges_from c (placed_from 0 vs)) (placed_from 0 (take n vs)) ((n, get_or vs n d) ∷ [])
-        ∙ ap (λ es. edges_of_first c vs n ++ es) (append-nil (edges_from c (placed_from 0 vs) (n, get_or vs n d))))
+    ∙ (flat_map-append (edges_from c (placed_from 0 vs)) (placed_from 0 (take n vs)) ((n, get_or vs n d) ∷ [])
+    ∙ ap (λ es. edges_of_first c vs n ++ es) (append-nil (edges_from c (placed_from 0 vs) (n, get_or vs n d))))
 
 -- a step at a vertex that takes the value
 pub step-edge : (c : Code) (vs : List Vertex) (u : ℕ × Vertex) (n : ℕ) (d : Vertex) (olds es fs : Edges) → n < length vs → feeds c u.1 (get_or vs n d) ≡ true

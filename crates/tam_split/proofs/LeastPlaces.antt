@@ -49,7 +49,7 @@ least-merged ps p ms q qs u v a b h =
     let left : is_rising (map least ps ++ least p ∷ (map least ms ++ map least qs)) ≡ true = without (map least ps) (least p) (map least ms) (least q) (map least qs) rises in
     let back : map least ps ++ least p ∷ (map least ms ++ map least qs) ≡ map least (ps ++ merge_rising p q ∷ (ms ++ qs)) =
     ap (λ w. map least ps ++ w ∷ (map least ms ++ map least qs)) (sym same)
-        ∙ (ap (λ xs. map least ps ++ least (merge_rising p q) ∷ xs) (sym (map-append least ms qs)) ∙ sym (map-append least ps (merge_rising p q ∷ (ms ++ qs)))) in
+    ∙ (ap (λ xs. map least ps ++ least (merge_rising p q) ∷ xs) (sym (map-append least ms qs)) ∙ sym (map-append least ps (merge_rising p q ∷ (ms ++ qs)))) in
     subst (λ xs. is_rising xs ≡ true) back left
   where
     without : (xs : List ℕ) (x : ℕ) (ys : List ℕ) (y : ℕ) (zs : List ℕ) → is_rising (xs ++ x ∷ (ys ++ y ∷ zs)) ≡ true → is_rising (xs ++ x ∷ (ys ++ zs)) ≡ true

@@ -100,8 +100,17 @@ module _ (ps : Parts) (p : List ℕ) (ms : Parts) (q : List ℕ) (qs : Parts) wh
   length-united =
       let a = ap length concat-apart in
       let u = ap length concat-united in
-      omega (arith, length-append (concat ps) (p ++ (concat ms ++ (q ++ concat qs))), length-append p (concat ms ++ (q ++ concat qs)), length-append (concat ms) (q ++ concat qs), length-append q (concat qs),
-      length-append (concat ps) (merge_rising p q ++ (concat ms ++ concat qs)), length-append (merge_rising p q) (concat ms ++ concat qs), length-append (concat ms) (concat qs), length-merge p q)
+      omega (
+        arith,
+        length-append (concat ps) (p ++ (concat ms ++ (q ++ concat qs))),
+        length-append p (concat ms ++ (q ++ concat qs)),
+        length-append (concat ms) (q ++ concat qs),
+        length-append q (concat qs),
+        length-append (concat ps) (merge_rising p q ++ (concat ms ++ concat qs)),
+        length-append (merge_rising p q) (concat ms ++ concat qs),
+        length-append (concat ms) (concat qs),
+        length-merge p q,
+      )
 
   -- ---- what the type keeps
 

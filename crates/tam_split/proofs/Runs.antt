@@ -93,6 +93,6 @@ runs-joined w from middle start end a b c d apart k h t zs at moved sorted =
     let q = slice_range w start end in
     let is : w ≡ take from w ++ (p ++ (m ++ (q ++ drop end w))) =
     sym (take-append-drop from w)
-        ∙ ap (λ l. take from w ++ l) (cut-again w from middle a ∙ ap (λ l. p ++ l) (cut-again w middle start b ∙ ap (λ l. m ++ l) (cut-again w start end c))) in
+    ∙ ap (λ l. take from w ++ l) (cut-again w from middle a ∙ ap (λ l. p ++ l) (cut-again w middle start b ∙ ap (λ l. m ++ l) (cut-again w start end c))) in
     pieces-joined w (take from w) p m q (drop end w) is from middle start end (length-take-le from w (omega arith)) (length-piece w from middle a (omega arith))
     (length-piece w middle start b (omega arith)) (length-piece w start end c d) k h apart t zs at moved sorted

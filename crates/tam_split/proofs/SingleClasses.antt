@@ -27,7 +27,7 @@ pub ends-more : (n : ℕ) → ends_from 0 (single (n + 1)) ≡ ends_from 0 (sing
 ends-more n =
     let long : 0 + length (concat (single n)) + 1 ≡ n + 1 = omega (arith, ap length (concat-single n), length-below n) in
     ap (λ m. ends_from 0 (single m)) (add-one n)
-        ∙ (ap (ends_from 0) (single-more n) ∙ (ends-append 0 (single n) ((n ∷ []) ∷ []) ∙ ap (λ m. ends_from 0 (single n) ++ m ∷ []) long))
+    ∙ (ap (ends_from 0) (single-more n) ∙ (ends-append 0 (single n) ((n ∷ []) ∷ []) ∙ ap (λ m. ends_from 0 (single n) ++ m ∷ []) long))
 
 -- one place more
 pub places-more : (n : ℕ) → below (n + 1) ≡ below n ++ n ∷ []
@@ -64,7 +64,7 @@ single-kept n few =
       few = omega arith;
       each_once = subst (λ m. HaveEach m (single n)) (sym long) (parts-each n (single n) (single-parts n));
       none_empty = in-all (λ (p : List ℕ). nat_lt 0 (length p)) (single n) (λ p i. let r = in-map (λ (x : ℕ). x ∷ []) p (below n) i in
-      subst (λ (q : List ℕ). nat_lt 0 (length q) ≡ true) r.2 refl);
+          subst (λ (q : List ℕ). nat_lt 0 (length q) ≡ true) r.2 refl);
       rising = in-all is_rising (single n) (λ p i. let r = in-map (λ (x : ℕ). x ∷ []) p (below n) i in subst (λ q. is_rising q ≡ true) r.2 refl);
       by_least = subst (λ xs. is_rising xs ≡ true) (sym (least-single n)) (rising-below n);
     }

@@ -140,10 +140,10 @@ module _ (ps : Parts) (p : List ℕ) (ms : Parts) (q : List ℕ) (qs : Parts) wh
       let moved : map (λ x. x + length q) (e ∷ ends_from e ms) ≡ u ∷ ends_from u ms =
       ap₂ (λ x es. x ∷ es) eu (ends-moved e (length q) ms ∙ ap (λ x. ends_from x ms) eu) in
       let three : moved_ends (ends_from 0 ps ++ ((e ∷ ends_from e ms) ++ f ∷ ends_from f qs)) (length ps) (later ps p ms q qs) (length q)
-          ≡ ends_from 0 ps ++ (map (λ x. x + length q) (e ∷ ends_from e ms) ++ ends_from f qs) =
+      ≡ ends_from 0 ps ++ (map (λ x. x + length q) (e ∷ ends_from e ms) ++ ends_from f qs) =
       ends-cut (ends_from 0 ps) (e ∷ ends_from e ms) (ends_from f qs) f (length q) (length ps) (later ps p ms q qs) (length-ends 0 ps) (omega (arith, length-ends e ms)) in
       ap (λ es. moved_ends es (length ps) (later ps p ms q qs) (length q)) cut
-          ∙ (three ∙ (ap₂ (λ l x. ends_from 0 ps ++ (l ++ ends_from x qs)) moved fv ∙ sym cut2))
+      ∙ (three ∙ (ap₂ (λ l x. ends_from 0 ps ++ (l ++ ends_from x qs)) moved fv ∙ sym cut2))
 
   -- the four bounds, where they are read off the ends
   abbrev bound_of : ℕ → ℕ → ℕ
@@ -172,13 +172,13 @@ module _ (ps : Parts) (p : List ℕ) (ms : Parts) (q : List ℕ) (qs : Parts) wh
     start-is : start ≡ length (concat ps) + (length p + length (concat ms))
     start-is =
         let x = s ∙ (ap (λ n. get_or (0 ∷ ends_from 0 (apart ps p ms q qs)) n 0) (sym length-front)
-            ∙ (ap (λ rs. get_or (0 ∷ ends_from 0 rs) (length (ps ++ p ∷ ms)) 0) front ∙ start-behind 0 (ps ++ p ∷ ms) (q ∷ qs))) in
+        ∙ (ap (λ rs. get_or (0 ∷ ends_from 0 rs) (length (ps ++ p ∷ ms)) 0) front ∙ start-behind 0 (ps ++ p ∷ ms) (q ∷ qs))) in
         let y = concat-front in omega arith
 
     end-is : end ≡ length (concat ps) + (length p + length (concat ms)) + length q
     end-is =
         let x = e ∙ (ap (λ n. get_or (ends_from 0 (apart ps p ms q qs)) n 0) (sym length-front)
-            ∙ (ap (λ rs. get_or (ends_from 0 rs) (length (ps ++ p ∷ ms)) 0) front ∙ end-behind 0 (ps ++ p ∷ ms) q qs)) in
+        ∙ (ap (λ rs. get_or (ends_from 0 rs) (length (ps ++ p ∷ ms)) 0) front ∙ end-behind 0 (ps ++ p ∷ ms) q qs)) in
         let y = concat-front in omega arith
 
     -- the list in which all are stored
@@ -202,21 +202,21 @@ module _ (ps : Parts) (p : List ℕ) (ms : Parts) (q : List ℕ) (qs : Parts) wh
     between-is =
         let x = middle-is in let y = start-is in
         ap (λ l. slice_range l middle start) grouped
-            ∙ range-behind (concat ps ++ p) (concat ms) (q ++ concat qs) middle start (omega (arith, length-append (concat ps) p)) (omega arith)
+        ∙ range-behind (concat ps ++ p) (concat ms) (q ++ concat qs) middle start (omega (arith, length-append (concat ps) p)) (omega arith)
 
     second-is : slice_range w start end ≡ q
     second-is =
         let x = start-is in let y = end-is in
         ap (λ l. slice_range l start end) grouped-later
-            ∙ range-behind ((concat ps ++ p) ++ concat ms) q (concat qs) start end (omega (arith, length-append (concat ps ++ p) (concat ms), length-append (concat ps) p)) (omega arith)
+        ∙ range-behind ((concat ps ++ p) ++ concat ms) q (concat qs) start end (omega (arith, length-append (concat ps ++ p) (concat ms), length-append (concat ps) p)) (omega arith)
 
     rest-is : drop end w ≡ concat qs
     rest-is =
         let x = end-is in
         let all : w ≡ (((concat ps ++ p) ++ concat ms) ++ q) ++ concat qs = grouped-later ∙ sym (append_assoc ((concat ps ++ p) ++ concat ms) q (concat qs)) in
         ap (drop end) all
-            ∙ drop_at (((concat ps ++ p) ++ concat ms) ++ q) (concat qs) end
-            (omega (arith, length-append ((concat ps ++ p) ++ concat ms) q, length-append (concat ps ++ p) (concat ms), length-append (concat ps) p))
+        ∙ drop_at (((concat ps ++ p) ++ concat ms) ++ q) (concat qs) end
+        (omega (arith, length-append ((concat ps ++ p) ++ concat ms) q, length-append (concat ps ++ p) (concat ms), length-append (concat ps) p))
 
     -- joined, they are stored as the merged classes
     joined-is : with_joined w from middle start end ≡ concat (united ps p ms q qs)
@@ -231,8 +231,8 @@ module _ (ps : Parts) (p : List ℕ) (ms : Parts) (q : List ℕ) (qs : Parts) wh
       runs-are =
           let x = from-is in let y = middle-is in let z = start-is in let v = end-is in
           let all : length w ≡ length (concat ps) + (length p + (length (concat ms) + (length q + length (concat qs)))) = ap length (concat-apart ps p ms q qs)
-              ∙ (length-append (concat ps) (p ++ (concat ms ++ (q ++ concat qs)))
-              ∙ ap (λ n. length (concat ps) + n) (length-append p (concat ms ++ (q ++ concat qs)) ∙ ap (λ n. length p + n) (length-append (concat ms) (q ++ concat qs) ∙ ap (λ n. length (concat ms) + n) (length-append q (concat qs))))) in
+          ∙ (length-append (concat ps) (p ++ (concat ms ++ (q ++ concat qs)))
+          ∙ ap (λ n. length (concat ps) + n) (length-append p (concat ms ++ (q ++ concat qs)) ∙ ap (λ n. length p + n) (length-append (concat ms) (q ++ concat qs) ∙ ap (λ n. length (concat ms) + n) (length-append q (concat qs))))) in
           record {
             first = omega arith;
             between = omega arith;
@@ -365,7 +365,12 @@ removed-is ds ends moved es n a b by i k l h m r =
     let front : length (take a ends) ≡ a = length-take-le a ends (omega arith) in
     let part : length (take (b - a) (drop a ends)) ≡ b - a = length-take-le (b - a) (drop a ends) (omega (arith, length-drop a ends)) in
     let long : length w ≡ n =
-    omega (arith, length-append (take a ends) (map (λ e. e + by) (take (b - a) (drop a ends)) ++ drop b ends), length-append (map (λ e. e + by) (take (b - a) (drop a ends))) (drop b ends),
-    length-map (take (b - a) (drop a ends)) (λ e. e + by), length-drop b ends) in
+    omega (
+      arith,
+      length-append (take a ends) (map (λ e. e + by) (take (b - a) (drop a ends)) ++ drop b ends),
+      length-append (map (λ e. e + by) (take (b - a) (drop a ends))) (drop b ends),
+      length-map (take (b - a) (drop a ends)) (λ e. e + by),
+      length-drop b ends,
+    ) in
     let back : take n (w ++ drop (length w) ends) ≡ w = take_at w (drop (length w) ends) n long in
     r ∙ (ap (λ x. remove (take n (x ++ drop (length x) ends)) b) whole ∙ ap (λ x. remove x b) back)

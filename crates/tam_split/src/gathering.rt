@@ -47,7 +47,9 @@ fn push_vertices(vertices: &mut Vec<Vertex>, node: u32, kind: Kind) -> Result<()
         inlet: true,
         outlet: false,
     };
-    vertices.extend_from_slice(&[ask, answer]).map_err(|_| NoMemory)
+    vertices
+        .extend_from_slice(&[ask, answer])
+        .map_err(|_| NoMemory)
 }
 
 // The edges among the vertices, rising.

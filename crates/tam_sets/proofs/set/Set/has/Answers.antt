@@ -9,7 +9,7 @@ use Rattle.tam_sets.proofs.set.Set.has.Goals as goal
 pub returns-then-place-lt-PLACES-clause-value : goal.returns-then-place-lt-PLACES-clause-value
 returns-then-place-lt-PLACES-clause-value c =
     bit-read c.self.inside.bits c.args.place
-        ∙ (sym (has-bit c.self.inside.bits c.args.place c.if-place-lt-PLACES.true) ∙ ap (λ (xs : List ℕ). has xs c.args.place) c.self.view_is)
+    ∙ (sym (has-bit c.self.inside.bits c.args.place c.if-place-lt-PLACES.true) ∙ ap (λ (xs : List ℕ). has xs c.args.place) c.self.view_is)
 
 pub returns-then-place-lt-PLACES-clause-members : goal.returns-then-place-lt-PLACES-clause-members
 returns-then-place-lt-PLACES-clause-members c = subst (λ (xs : List ℕ). xs ≡ places_where (has xs)) c.self.view_is (where-has (has_bit c.self.inside.bits))
@@ -19,7 +19,7 @@ returns-else-place-lt-PLACES-clause-value c =
     let high : 128 ≤ c.args.place = c.if-place-lt-PLACES.false in
     let none : nat_lt c.args.place 128 ≡ false = grind (arith, tests) in
     none
-        ∙ (sym (has-beyond (has_bit c.self.inside.bits) c.args.place (λ l. absurd (omega arith))) ∙ ap (λ (xs : List ℕ). has xs c.args.place) c.self.view_is)
+    ∙ (sym (has-beyond (has_bit c.self.inside.bits) c.args.place (λ l. absurd (omega arith))) ∙ ap (λ (xs : List ℕ). has xs c.args.place) c.self.view_is)
 
 pub returns-else-place-lt-PLACES-clause-members : goal.returns-else-place-lt-PLACES-clause-members
 returns-else-place-lt-PLACES-clause-members c = subst (λ (xs : List ℕ). xs ≡ places_where (has xs)) c.self.view_is (where-has (has_bit c.self.inside.bits))

@@ -1,0 +1,7 @@
+use Rattle.std.proofs.Common.{◌≡◌, map, drop, length}
+use Rattle.tam_word.specs.Lists.{below}
+use Rattle.tam_reach.proofs.Spread.{reached}
+use Rattle.tam_reach.proofs.reach.demands.Given as goal
+
+abbrev pub invariant-loop-place : goal.invariant-loop-place
+invariant-loop-place l = l.sets.items ≡ map (reached (drop l.place l.edges)) (below (length l.vertices))

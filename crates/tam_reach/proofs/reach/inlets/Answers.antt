@@ -1,0 +1,16 @@
+use Rattle.std.proofs.Common.{◌∙◌, ap, List, ℕ}
+use Rattle.tam_sets.specs.Sets.{with_place}
+use Rattle.tam_split.specs.declared.vertex.Vertex.{Vertex}
+use Rattle.tam_reach.proofs.PlacesThat.{up_to-more, up_to-same}
+use Rattle.tam_reach.proofs.reach.inlets.Goals as goal
+use Rattle.tam_reach.proofs.reach.inlets.Goals.{then-vertex, else-vertex}
+
+pub loop-place-preserved : goal.loop-place-preserved
+loop-place-preserved c =
+    let test = λ (v : Vertex). v.inlet in
+    elim c.if-vertex.branch [
+      | then-vertex w ↦ w.inlets-is
+          ∙ (w.insert.ensures.value
+          ∙ (ap (λ (xs : List ℕ). with_place c.loop-place.place xs) c.loop-place.invariant ∙ up_to-more test c.args.vertices.now c.loop-place.place _ c.loop-place-test.true w.if-vertex.true))
+      | else-vertex w ↦ w.inlets-is ∙ (c.loop-place.invariant ∙ up_to-same test c.args.vertices.now c.loop-place.place _ c.loop-place-test.true w.if-vertex.false)
+    ]

@@ -1,0 +1,6 @@
+use Rattle.std.proofs.Common.{◌≡◌}
+use Rattle.tam_reach.proofs.PlacesThat.{places_up_to}
+use Rattle.tam_reach.proofs.reach.outlets.Given as goal
+
+abbrev pub invariant-loop-place : goal.invariant-loop-place
+invariant-loop-place l = l.outlets ≡ places_up_to (λ v. v.outlet) l.vertices l.place

@@ -1,2 +1,4 @@
 pub mod FewBlocks
 pub mod CodeSizes
+pub mod Appending
+pub mod Inside

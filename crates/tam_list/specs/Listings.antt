@@ -1,6 +1,6 @@
 -- The texts that list an accepted graph: its size, what each vertex depends on and is demanded by, and the classes of its blocks.
 -- The rule in words: docs/FORMATS.md, "Listings".
-use Rattle.std.specs.Prelude.{ℕ, List, [], ◌∷◌, ◌++◌, map, flat_map, length, decimal, codes}
+use Rattle.std.specs.Prelude.{ℕ, List, [], ◌∷◌, ◌++◌, flat_map, length, decimal, codes}
 use Rattle.std.specs.List.{sum_by}
 use Rattle.tam_word.specs.Lists.{below}
 use Rattle.tam_graph.specs.Graphs.{Code, Graph, code_of, blocks_of}
@@ -58,10 +58,14 @@ vertex_text v = decimal v.node ++ half_text v.half
 abbrev pub place_text : BlockGraph → ℕ → List ℕ
 place_text b x = vertex_text (vertex_at b x)
 
+-- the vertices at such places, each behind a mark
+abbrev pub marked_text : List ℕ → BlockGraph → List ℕ → List ℕ
+marked_text mark b xs = flat_map (λ x. mark ++ place_text b x) xs
+
 -- the vertices at such places, joined by commas; `-` where there is none
 abbrev pub places_text : BlockGraph → List ℕ → List ℕ
 places_text b [] = codes "-"
-places_text b (x ∷ xs) = place_text b x ++ flat_map (λ y. codes "," ++ place_text b y) xs
+places_text b (x ∷ xs) = place_text b x ++ marked_text (codes ",") b xs
 
 -- ---- what is told of a block
 
@@ -76,7 +80,7 @@ sets_of b = flat_map (sets_line b) (places b)
 
 -- a class with all its vertices
 abbrev pub class_line : BlockGraph → List ℕ → List ℕ
-class_line b class = line (codes "thread" ++ flat_map (λ x. codes " " ++ place_text b x) class)
+class_line b class = line (codes "thread" ++ marked_text (codes " ") b class)
 
 -- the classes of the block's partition
 abbrev pub classes_of : BlockGraph → List ℕ

@@ -4,8 +4,14 @@
 //! Read `specs/Listings.antt` first: it says each text.
 #![tactic(auto)]
 
+mod block_classes;
+mod block_sets;
+mod blocks;
 mod counting;
 mod size;
 mod text;
+mod told;
+mod vertices;
 
+pub use blocks::{print_parts, print_sets};
 pub use size::print_check;

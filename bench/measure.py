@@ -1,9 +1,10 @@
 """Time and memory of the program, as the work doubles.
 
-usage: measure.py PROGRAM
+usage: measure.py PROGRAM [PART ..]
 
-Each line of output is a row of RESULTS.md. A time is the least of five runs,
-memory the least address space within which the run still has its status and output.
+The parts are `runs`, `words`, `texts`, `hostile` and `blocks`; without one all are measured. Each line of output is a row
+of RESULTS.md. A time is the least of several runs, memory the least address space within which the run still has its
+status and output.
 """
 
 import os
@@ -12,34 +13,13 @@ import sys
 import tempfile
 import time
 
-RUNS = 40
+import texts
 
-OPERATORS = "add sub mul div divu rem remu and or xor sll srl sra slt sltu eq".split()
+EXAMPLES = os.path.join(os.path.dirname(os.path.dirname(os.path.abspath(__file__))), "examples")
 
-
-def graph_of(operators):
-    """A text of two params, a chain of that many operators, and one result."""
-    lines = ["dg 1", "code main", "a = param 0", "b = param 1"]
-    last = "a"
-    for number in range(operators):
-        name = f"n{number}"
-        lines.append(f"{name} = {OPERATORS[number % 3]} {last} b")
-        last = name
-    lines.append(f"result 0 {last}")
-    lines.append("end")
-    return "\n".join(lines) + "\n"
-
-
-def results_of(count):
-    """A text whose `main` has one param and that many results, each the param."""
-    lines = ["dg 1", "code main", "a = param 0"]
-    lines += [f"result {place} a" for place in range(count)]
-    return "\n".join([*lines, "end"]) + "\n"
-
-
-def refused_of(lines_wanted):
-    """A text of that many lines that name one node, which no form takes."""
-    return "dg 1\ncode main\n" + "a = param 0\n" * lines_wanted
+FEWEST_RUNS = 5
+MOST_RUNS = 40
+SECONDS = 4.0
 
 
 def run_once(program, words, limit="unlimited"):
@@ -50,10 +30,18 @@ def run_once(program, words, limit="unlimited"):
     return time.perf_counter() - start, (done.returncode, done.stdout)
 
 
+def runs_of(program, words):
+    """Several runs: at least five, at most forty, and no more once they took four seconds."""
+    runs = []
+    while len(runs) < FEWEST_RUNS or (len(runs) < MOST_RUNS and sum(run[0] for run in runs) < SECONDS):
+        runs.append(run_once(program, words))
+    return runs
+
+
 def least_memory(program, words, end):
     """The least address space in KiB within which the run still has that status and output."""
-    low, high = 0, 1 << 20
-    while high - low > 16:
+    low, high = 0, 1 << 21
+    while high - low > max(16, low // 64):
         middle = (low + high) // 2
         if run_once(program, words, middle)[1] == end:
             high = middle
@@ -62,32 +50,75 @@ def least_memory(program, words, end):
     return high
 
 
-def measure(program, label, text, words):
-    """One row: what, bytes, status, milliseconds, KiB."""
+def events_of(output):
+    """The events that a run's text counts, if it counts any."""
+    for line in output.decode("latin1").split("\n"):
+        if line.startswith("events "):
+            return int(line.split()[1])
+    return None
+
+
+def measure(program, mode, label, text, words):
+    """One row: what, bytes, status, events, milliseconds, events a second, KiB."""
     with tempfile.NamedTemporaryFile("w", suffix=".dg", delete=False) as file:
         file.write(text)
-    words = ["graph", file.name, *words]
-    runs = [run_once(program, words) for _ in range(RUNS)]
+    words = [mode, file.name, *words]
+    runs = runs_of(program, words)
     end = runs[0][1]
     memory = least_memory(program, words, end)
     os.unlink(file.name)
-    print(f"| {label} | {len(text)} | {end[0]} | {min(run[0] for run in runs) * 1000:.1f} | {memory} |")
+    seconds = min(run[0] for run in runs)
+    events = events_of(end[1]) if mode == "graph" else None
+    rate = f"{events / seconds:.0f}" if events else ""
+    print(f"| {mode}, {label} | {len(text)} | {end[0]} | {events or ''} | {seconds * 1000:.1f} | {rate} | {memory} |", flush=True)
+
+
+def example(name):
+    with open(os.path.join(EXAMPLES, name)) as file:
+        return file.read()
+
+
+def measure_runs(program):
+    room = ["--budget=4294967295", "--frames=16384", "--cells=4194304"]
+    for number in (15, 30, 60):
+        measure(program, "graph", f"wavefront of {number} by {number}", example("wavefront.dg"), [f"--args={number}", *room])
+    for number in (12, 15, 18):
+        measure(program, "graph", f"fib of {number}", example("fib.dg"), [f"--args={number}", *room])
+
+
+def measure_words(program):
+    for count in (1_250, 2_500, 5_000, 10_000):
+        measure(program, "graph", f"{count} arguments", example("add.dg"), ["--args=" + ",".join(["-214748364"] * count)])
+    for count in (16, 32, 64):
+        lines = ["dg 1", "code main", "a = param 0", *[f"result {place} a" for place in range(count)], "end"]
+        measure(program, "graph", f"{count} results", "\n".join(lines) + "\n", ["--args=-2147483648"])
+
+
+def measure_texts(program):
+    for size in (1 << 17, 1 << 18, 1 << 19, 1 << 20):
+        for mode in ("check", "emit-dg"):
+            measure(program, mode, f"accepted, {size // 1024} kB", texts.accepted(size), [])
+
+
+def measure_hostile(program):
+    for kind in texts.REFUSED:
+        for size in (1 << 19, (1 << 20) - 64):
+            measure(program, "check", f"{kind}, {size // 1024} kB", texts.refused(kind, size), [])
+
+
+def measure_blocks(program):
+    for kind in texts.BLOCKS:
+        for vertices in (32, 64, 128):
+            measure(program, "parts", f"{kind}, {vertices} vertices", texts.block(kind, vertices), [])
+
+
+PARTS = {"runs": measure_runs, "words": measure_words, "texts": measure_texts, "hostile": measure_hostile, "blocks": measure_blocks}
 
 
 def main():
-    program = sys.argv[1]
-    for operators in (15, 31, 62, 125):
-        measure(program, f"run, {operators} operators", graph_of(operators), ["--args=7,3"])
-    for count in (16, 32, 64):
-        measure(program, f"printed, {count} results", results_of(count), ["--args=-2147483648"])
-    for count in (1_250, 2_500, 5_000, 10_000):
-        words = ["--args=" + ",".join(["-214748364"] * count)]
-        measure(program, f"read, {count} arguments", graph_of(15), words)
-    for count in (10_000, 20_000, 40_000, 80_000):
-        measure(program, f"refused, {count} lines", refused_of(count), [])
-    one_line = "dg 1\ncode main\na = param 0\n" + "x" * (1 << 20)
-    for size in (1 << 17, 1 << 18, 1 << 19, 1 << 20):
-        measure(program, f"refused, one line of {size} bytes", one_line[:size], [])
+    program = os.path.abspath(sys.argv[1])
+    for name in sys.argv[2:] or PARTS:
+        PARTS[name](program)
 
 
 main()

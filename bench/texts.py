@@ -1,0 +1,109 @@
+"""Texts of graphs, made for measurements and for the rows of RESULTS.md."""
+
+import random
+
+OPERATORS = "add sub mul div divu rem remu and or xor sll srl sra slt sltu eq".split()
+
+
+def code_of(name, conds, nodes):
+    """A code with that many conds, each branch of which is a chain of that many nodes."""
+    lines = [f"code {name}", "p = const 1"]
+    number = 0
+    for cond in range(conds):
+        lines.append(f"c{cond} = cond p")
+        for branch in range(2):
+            last = f"n{number}"
+            lines.append(f"{last} = const {number}")
+            for step in range(nodes - 1):
+                number += 1
+                lines.append(f"n{number} = {OPERATORS[step % 16]} {last} {last}")
+                last = f"n{number}"
+            number += 1
+            lines.append("else" if branch == 0 else "end")
+    lines.append("end")
+    return lines
+
+
+def accepted(size):
+    """An accepted text of about that many bytes and no more: codes of seven conds with branches of 64 nodes."""
+    lines = ["dg 1", "code main", "end"]
+    used = sum(len(line) + 1 for line in lines)
+    number = 0
+    while True:
+        code = code_of(f"k{number}", 7, 64)
+        length = sum(len(line) + 1 for line in code)
+        if used + length > size:
+            return "\n".join(lines) + "\n"
+        lines += code
+        used += length
+        number += 1
+
+
+def refused(kind, size):
+    """A text of about that many bytes with one fault."""
+    if kind == "one name repeated":
+        return ("dg 1\ncode main\n" + "a = const 1\n" * (size // 12))[:size]
+    if kind == "a fault on the last line":
+        text = accepted(size - 20)
+        return text + "x = foo\n"
+    if kind == "an unknown name on the last line":
+        text = accepted(size - 40)
+        return text + "code last\nresult 0 y\nend\n"
+    if kind == "256 codes, and one":
+        names = [f"code {'k' * 20}{n}\nend\n" for n in range(256)]
+        filler = "# " + "x" * 4000 + "\n"
+        text = "dg 1\n" + "".join(names)
+        return text + filler * ((size - len(text) - 20) // len(filler)) + "code last\nend\n"
+    if kind == "a deepest nesting":
+        head = ["dg 1", "code main", "p0 = const 1"]
+        for depth in range(17):
+            head += [f"c{depth} = cond p{depth}", f"p{depth + 1} = const 1"]
+        text = "\n".join(head) + "\n"
+        return "\n" * (size - len(text)) + text
+    if kind == "one line":
+        return "dg 1\ncode main\n" + "a " * ((size - 16) // 2) + "\n"
+    if kind == "blank lines":
+        return "\n" * (size - 3) + "dg\n"
+    raise ValueError(kind)
+
+
+REFUSED = [
+    "one name repeated",
+    "a fault on the last line",
+    "an unknown name on the last line",
+    "256 codes, and one",
+    "a deepest nesting",
+    "one line",
+    "blank lines",
+]
+
+
+def block(kind, vertices):
+    """A text whose `main` is one block of that many vertices."""
+    lines = ["dg 1", "code main"]
+    if kind == "a chain":
+        lines.append("n0 = const 1")
+        lines += [f"n{n} = add n{n - 1} n{n - 1}" for n in range(1, vertices)]
+    elif kind == "params and results, each its own":
+        pairs = vertices // 2
+        lines += [f"a{n} = param {n}" for n in range(pairs)]
+        lines += [f"result {n} a{n}" for n in range(pairs)]
+    elif kind == "sums of neighbours":
+        third = vertices // 3
+        lines += [f"a{n} = param {n}" for n in range(third)]
+        lines += [f"s{n} = add a{n} a{(n + 1) % third}" for n in range(third)]
+        lines += [f"result {n} s{n}" for n in range(third)]
+        lines += [f"k{n} = const {n}" for n in range(vertices - 3 * third)]
+    elif kind == "random":
+        chance = random.Random(vertices)
+        params = vertices // 8
+        lines += [f"n{n} = param {n}" for n in range(params)]
+        inner = vertices - 2 * params
+        lines += [f"n{n} = {chance.choice(OPERATORS)} n{chance.randrange(n)} n{chance.randrange(n)}" for n in range(params, params + inner)]
+        lines += [f"result {n} n{chance.randrange(params + inner)}" for n in range(params)]
+    else:
+        raise ValueError(kind)
+    return "\n".join([*lines, "end"]) + "\n"
+
+
+BLOCKS = ["a chain", "params and results, each its own", "sums of neighbours", "random"]

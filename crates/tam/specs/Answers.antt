@@ -19,7 +19,7 @@ use Rattle.tam_words.specs.declared.mode.Mode.{Mode}
 use Rattle.tam_words.specs.declared.mode.Mode.TheVariants as mode
 use Rattle.tam_words.specs.declared.usage_cause.UsageCause.TheVariants.{ArgsCount}
 use Rattle.tam_words.specs.Jobs.{Asked, Job, JobParts}
-use Rattle.tam_list.specs.Listings.{check_text}
+use Rattle.tam_list.specs.Listings.{check_text, sets_text, parts_text}
 use Rattle.tam_input.specs.declared.refusal.Refusal.{Refusal}
 use Rattle.tam_input.specs.Refusing.{Files, IsLeft, IsOrder, IsUntold, Refuses, input_of, most_bytes, usage_line, no_memory_line, refusal_status, refusal_line}
 use Rattle.tam_input.specs.Inputs.{Request, request_of}
@@ -34,6 +34,8 @@ pub record Spells (bytes : List ℕ) (g : Graph) : Type 0 where
 abbrev pub listing : Mode → Graph → Option (List ℕ)
 listing mode.Check g = Some (check_text g)
 listing mode.EmitDg g = Some (canonical g)
+listing mode.Sets g = Some (sets_text g)
+listing mode.Parts g = Some (parts_text g)
 listing mode.Graph g = None
 
 -- ---- runs

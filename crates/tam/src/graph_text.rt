@@ -14,7 +14,7 @@ use std::alloc::Global;
 use tam_check::{CheckError, check};
 use tam_edge::Sink;
 use tam_graph::Accepted;
-use tam_list::print_check;
+use tam_list::{print_check, print_parts, print_sets};
 use tam_msgs::Order;
 use tam_print::print;
 use tam_read::{Found, Refused, read};
@@ -78,5 +78,7 @@ fn answer_accepted<K: Sink>(
         Mode::Graph => run_graph(alloc, graph, job, order, out),
         Mode::Check => say_made(print_check(alloc, graph), 0, out),
         Mode::EmitDg => say_made(print(alloc, graph.graph()), 0, out),
+        Mode::Sets => say_made(print_sets(alloc, graph), 0, out),
+        Mode::Parts => say_made(print_parts(alloc, graph), 0, out),
     }
 }

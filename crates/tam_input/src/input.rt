@@ -96,7 +96,7 @@ fn most_bytes(mode: Mode) -> u32
     ensures value { result ≡ most_bytes mode }
 {
     match mode {
-        Mode::Graph | Mode::Check | Mode::EmitDg => MOST_BYTES,
+        Mode::Graph | Mode::Check | Mode::EmitDg | Mode::Sets | Mode::Parts => MOST_BYTES,
     }
 }
 

@@ -11,10 +11,18 @@ pub enum Mode {
     Graph,
     Check,
     EmitDg,
+    Sets,
+    Parts,
 }
 
 /// Every mode, in the order of `Mode`.
-pub const MODES: [Mode; 3] = [Mode::Graph, Mode::Check, Mode::EmitDg];
+pub const MODES: [Mode; 5] = [
+    Mode::Graph,
+    Mode::Check,
+    Mode::EmitDg,
+    Mode::Sets,
+    Mode::Parts,
+];
 
 impl Mode {
     /// The word that names the mode.
@@ -25,6 +33,8 @@ impl Mode {
             Mode::Graph => b"graph",
             Mode::Check => b"check",
             Mode::EmitDg => b"emit-dg",
+            Mode::Sets => b"sets",
+            Mode::Parts => b"parts",
         }
     }
 

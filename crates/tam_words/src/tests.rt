@@ -109,6 +109,8 @@ fn modes_have_their_words(rt: HostRuntime) -> Result<(), Fail> {
         ("graph", Mode::Graph),
         ("check", Mode::Check),
         ("emit-dg", Mode::EmitDg),
+        ("sets", Mode::Sets),
+        ("parts", Mode::Parts),
     ];
     for (word, mode) in cases {
         let texts = texts(&rt, &[word, "f"])?;

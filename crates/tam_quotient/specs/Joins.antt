@@ -1,7 +1,7 @@
 -- Tests over the ways to classes and from them.
-use Rattle.std.specs.Prelude.{ℕ, Bool, ◌&&◌, List}
+use Rattle.std.specs.Prelude.{ℕ, ◌≡◌, ◌<◌, Bool, ◌&&◌, List, length, IsTrue}
 use Rattle.tam_split.specs.Blocks.{BlockGraph}
-use Rattle.tam_split.specs.Partitions.{Parts}
+use Rattle.tam_split.specs.Partitions.{Parts, is_valid, may_merge}
 use Rattle.tam_sets.specs.Sets.{met, joined, is_within}
 use Rattle.tam_quotient.specs.Quotients.{ahead_of, behind_of, entering_of, allowed_of, pair_of}
 use Rattle.tam_quotient.specs.Tables.{set_at, column, entered, permitted}
@@ -27,3 +27,7 @@ has_none_between k l one other = is_within (joined (met one.ahead other.behind) 
 -- no outlet gets a dependence where the two are made one, and no third class stands between them
 abbrev pub are_joinable : ℕ → ℕ → Ways → Ways → Bool
 are_joinable k l one other = is_within one.entering other.allowed && is_within other.entering one.allowed && has_none_between k l one other
+
+-- the ways of any two classes of a valid partition tell whether these may be merged
+abbrev pub TellMerges : BlockGraph → Parts → Type 0
+TellMerges b ps = IsTrue (is_valid b ps) → (k l : ℕ) → k < l → l < length ps → are_joinable k l (ways_of b ps k) (ways_of b ps l) ≡ may_merge b ps (k, l)

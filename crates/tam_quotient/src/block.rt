@@ -1,5 +1,5 @@
 // What the vertices of a block are, and in which classes they stand.
-ghost use Rattle.std.specs.Prelude.{◌≡◌, ◌<◌, length, map, IfOk};
+ghost use Rattle.std.specs.Prelude.{◌≡◌, ◌<◌, ◌≤◌, length, map, IfOk};
 ghost use Rattle.tam_word.specs.Lists.{has};
 ghost use Rattle.tam_split.specs.Blocks.{vertex_at, places};
 ghost use Rattle.tam_split.specs.Partitions.{class_of, class_at};
@@ -33,6 +33,7 @@ pub(crate) fn is_outlet(b: &BlockGraph, place: u32) -> bool
 pub(crate) fn classes_of(alloc: Global, b: &BlockGraph, p: &Parts) -> Result<Vec<u32>, NoMemory>
     requires whole { IsPartition b.now p.now }
     ensures value { IfOk result (λ classes. classes.items ≡ map (class_of p.now) (places b.now)) }
+    ensures few { length b.now.vertices ≤ 128 }
 {
     let mut classes = Vec::new(alloc);
     for place in 0..b.vertices().len() as u32 {

@@ -5,7 +5,7 @@ ghost use Rattle.tam_split.specs.Blocks.{vertex_at, places, dependences};
 ghost use Rattle.tam_split.specs.PartitionLaws.{IsPartition};
 ghost use Rattle.tam_sets.specs.Sets.{places_where};
 ghost use Rattle.tam_quotient.specs.Tables.{column, enters, entered, is_led_to, permitted};
-ghost use Rattle.tam_quotient.specs.Joins.{ways_of, ways_to};
+ghost use Rattle.tam_quotient.specs.Joins.{ways_of, ways_to, TellMerges};
 
 use crate::Ways;
 use crate::block::{classes_of, is_inlet, is_outlet};
@@ -25,6 +25,8 @@ pub fn quotient(
     requires whole { IsPartition b.now p.now }
     requires depends { depends.now ≡ map (dependences b.now) (places b.now) }
     ensures value { IfOk result (λ ways. ways.items ≡ map (ways_of b.now p.now) (below (length p.now))) }
+    ensures few { IfOk result (λ ways. length ways.items ≤ 128) }
+    ensures told { IfOk result (λ _. TellMerges b.now p.now) }
 {
     let classes = classes_of(alloc, b, p)?;
     let leads = spread(alloc, b.edges(), &classes, p.classes())?;

@@ -2,7 +2,10 @@ use Rattle.std.proofs.Common.{◌≡◌, ◌+◌, ◌<◌, ◌≤◌, ℕ, List,
 use Rattle.tam_word.specs.Lists.{below}
 use Rattle.tam_quotient.specs.declared.ways.Ways.{Ways}
 use Rattle.tam_quotient.specs.Joins.{ways_of}
-use Rattle.tam_quotient.proofs.Tabling.{map-more}
+use Rattle.tam_quotient.proofs.Tabling.{map-more, length-table}
+use Rattle.tam_split.proofs.Classes.{partition-parts}
+use Rattle.tam_split.proofs.Validity.{is_valid-valid}
+use Rattle.tam_quotient.proofs.Deciding.{join-may_merge}
 use Rattle.tam_quotient.proofs.Surroundings.{few-classes, are_below, are_leads, leads-count, classes-count, depends-count, in_range, are_ways}
 use Rattle.tam_quotient.proofs.gather.quotient.Goals as goal
 
@@ -62,3 +65,17 @@ loop-k-preserved c =
     let went : is_ok c.push.result ≡ true = c.is_err.ensures.negation ∙ ap not c.if-is_err.false in
     let pushed : c.push.new.self.items ≡ c.loop-k.ways.items ++ c.ways_to-way.result ∷ [] = rw went at c.push.ensures.items in
     pushed ∙ (ap₂ (λ xs (w : Ways). xs ++ w ∷ []) c.loop-k.invariant way ∙ sym (map-more (ways_of c.args.b.now c.args.p.now) c.loop-k.k))
+
+pub returns-clause-few : goal.returns-clause-few
+returns-clause-few c =
+    let all : c.loop-k.k ≡ length c.args.p.now = omega (arith, c.loop-k-test.false, c.loop-k.auto.k-end, c.classes-k-end.ensures.value) in
+    let n : length c.loop-k.ways.items ≡ c.loop-k.k = ap length c.loop-k.invariant ∙ length-table (ways_of c.args.b.now c.args.p.now) c.loop-k.k in
+    let least = few-classes c.args.p.now c.classes.ensures.kept in
+    omega (arith, all, n, least)
+
+pub returns-clause-told : goal.returns-clause-told
+returns-clause-told c valid k l below within =
+    let b = c.args.b.now in
+    let p = c.args.p.now in
+    join-may_merge b c.edges.ensures.block c.classes_of.ensures.few p (partition-parts b p c.requires.whole) (few-classes p c.classes.ensures.kept)
+    (is_valid-valid b p valid) k l below within

@@ -8,8 +8,8 @@ pub more-taken : {X : Type 0} (f : X → List ℕ) (old : List ℕ) (xs : List X
     → t ≡ old ++ flat_map f (take i xs) → u ≡ t ++ f x → u ≡ old ++ flat_map f (take (i + 1) xs)
 more-taken f old xs i x t u l r before after =
     after
-        ∙ (ap (λ s. s ++ f x) before
-        ∙ (flat_map_more f old (take i xs) x ∙ ap (λ ys. old ++ flat_map f ys) (ap (λ y. take i xs ++ y ∷ []) r ∙ sym (take_more xs i x l))))
+    ∙ (ap (λ s. s ++ f x) before
+    ∙ (flat_map_more f old (take i xs) x ∙ ap (λ ys. old ++ flat_map f ys) (ap (λ y. take i xs ++ y ∷ []) r ∙ sym (take_more xs i x l))))
 
 -- one number more
 pub more-below : (f : ℕ → List ℕ) (old : List ℕ) (i : ℕ) (t u : List ℕ) → t ≡ old ++ flat_map f (below i) → u ≡ t ++ f i

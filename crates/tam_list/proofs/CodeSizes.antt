@@ -52,16 +52,16 @@ module _ (f group : ℕ → ℕ) where
   by-groups xs zero = no-group xs
   by-groups xs (suc m) =
       one-group m xs
-          ∙ (ap (λ n. n + sum_by f (filter (λ x. group x == m) xs)) (by-groups xs m)
-          ∙ sym (sum_by_push (λ b. sum_by f (filter (λ x. group x == b) xs)) (below m) m))
+      ∙ (ap (λ n. n + sum_by f (filter (λ x. group x == m) xs)) (by-groups xs m)
+      ∙ sym (sum_by_push (λ b. sum_by f (filter (λ x. group x == b) xs)) (below m) m))
 
 -- the vertices of a code are those of its nodes
 pub vertices-by_nodes : (codes : ℕ) (c : Code) → IsWritten codes c → vertices_of_code c ≡ sum_by (vertices_at c) (node_numbers c)
 vertices-by_nodes codes c written =
     same-terms _ (number_of_vertices c) (blocks_of c) (number_of_vertices-length c)
-        ∙ (sym (by-groups (vertices_at c) (block_at c) (node_numbers c) (length c.owners))
-        ∙ ap (sum_by (vertices_at c)) (all-stay (λ x. nat_lt (block_at c x) (length c.owners)) (node_numbers c)
-        (λ x m. below-test _ _ (block-below codes c written x (in-below x (length c.nodes) m)))))
+    ∙ (sym (by-groups (vertices_at c) (block_at c) (node_numbers c) (length c.owners))
+    ∙ ap (sum_by (vertices_at c)) (all-stay (λ x. nat_lt (block_at c x) (length c.owners)) (node_numbers c)
+    (λ x m. below-test _ _ (block-below codes c written x (in-below x (length c.nodes) m)))))
 
 -- ---- step by step
 

@@ -2,3 +2,4 @@ pub mod FewBlocks
 pub mod CodeSizes
 pub mod Appending
 pub mod Inside
+pub mod TestGraphs

@@ -9,6 +9,8 @@ mod block_sets;
 mod blocks;
 mod counting;
 mod size;
+#[cfg(test)]
+mod tests;
 mod text;
 mod told;
 mod vertices;

@@ -23,13 +23,13 @@ pub push_sets_line-requires-clause-depends : goal.push_sets_line-requires-clause
 push_sets_line-requires-clause-depends c =
     let same : length c.vertices.result.now ≡ length c.args.block.now.vertices = ap length c.vertices.ensures.value in
     c.index.ensures
-        ∙ at-place (dependences c.args.block.now) c.args.block.now c.in_ok-inlets.inlets.items c.loop-place.place _ c.in_ok-inlets.ensures.value (omega arith)
+    ∙ at-place (dependences c.args.block.now) c.args.block.now c.in_ok-inlets.inlets.items c.loop-place.place _ c.in_ok-inlets.ensures.value (omega arith)
 
 pub push_sets_line-requires-clause-demands : goal.push_sets_line-requires-clause-demands
 push_sets_line-requires-clause-demands c =
     let same : length c.vertices.result.now ≡ length c.args.block.now.vertices = ap length c.vertices.ensures.value in
     c.index-in-loop-place.ensures
-        ∙ at-place (demands c.args.block.now) c.args.block.now c.in_ok-outlets.outlets.items c.loop-place.place _ c.in_ok-outlets.ensures.value (omega arith)
+    ∙ at-place (demands c.args.block.now) c.args.block.now c.in_ok-outlets.outlets.items c.loop-place.place _ c.in_ok-outlets.ensures.value (omega arith)
 
 pub loop-place-preserved : goal.loop-place-preserved
 loop-place-preserved c =

@@ -21,4 +21,4 @@ returns-clause-value c =
     let same : length c.nodes-nodes.result.now ≡ length k.nodes = ap length c.nodes-nodes.ensures.value in
     omega arith in
     c.loop-node.invariant.0
-        ∙ (ap (λ n. sum_by (vertices_at k) (below n)) all ∙ sym (vertices-by_nodes c.nodes-nodes.ensures.of_text.0 k c.nodes-nodes.ensures.of_text.2.written))
+    ∙ (ap (λ n. sum_by (vertices_at k) (below n)) all ∙ sym (vertices-by_nodes c.nodes-nodes.ensures.of_text.0 k c.nodes-nodes.ensures.of_text.2.written))

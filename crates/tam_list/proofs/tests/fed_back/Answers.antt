@@ -1,0 +1,37 @@
+use Rattle.std.proofs.Common.{◌≡◌}
+use Rattle.tam_graph.specs.Graphs.{main_name}
+use Rattle.tam_list.proofs.TestGraphs.{fed_back-accepted, name-is}
+use Rattle.tam_list.proofs.tests.fed_back.Goals as goal
+
+pub of-requires-15 : goal.of-requires-15
+of-requires-15 c =
+    let main : c.in_ok-main.main ≡ main_name = name-is c.of.result c.in_ok-main.main main_name c.in_ok-main.ensures.ok_part c.of.ensures.value in
+    record {
+      accepted =
+          rw (
+            c.of-14.ensures.value,
+            c.in_ok-codes.ensures.items,
+            c.of-12.ensures.value,
+            c.of-13.ensures.value,
+            c.in_ok-calling.ensures.items,
+            c.in_ok-called.ensures.items,
+            c.in_ok-main_owners.ensures.items,
+            c.in_ok-owners.ensures.items,
+            main,
+            c.node.ensures,
+            c.node-2.ensures,
+            c.node-3.ensures,
+            c.node-4.ensures,
+            c.node-5.ensures,
+            c.node-6.ensures,
+            c.node-7.ensures,
+            c.node-8.ensures,
+            c.node-9.ensures,
+            c.node-10.ensures,
+            c.node-11.ensures,
+            c.node-12.ensures,
+            c.node-13.ensures,
+            c.node-14.ensures,
+          )
+          (fed_back-accepted _ _ _ _ _ _ _ _ _ _);
+    }

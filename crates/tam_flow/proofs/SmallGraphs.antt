@@ -1,0 +1,74 @@
+-- The graphs of the tests are accepted.
+use Rattle.std.proofs.Common.{◌≡◌, ℕ, zero, suc, true, List, [], ◌∷◌, None, Some, nat_lt, slice_get, ◌<◌, ◌^◌, refl, arith, tests}
+use Rattle.tam_graph.specs.declared.node.Node.{Node}
+use Rattle.tam_graph.specs.declared.kind.Kind.{Kind}
+use Rattle.tam_graph.specs.declared.kind.Kind.TheVariants.{Param, Const, Op as Operate, Give, Alloc, Fetch}
+use Rattle.tam_word.specs.declared.op.Op.TheVariants.{Add}
+use Rattle.tam_graph.specs.Graphs.{Graph, AreArguments, graph_of, main_name, code_of}
+use Rattle.tam_graph.specs.Accepted.{IsAccepted}
+use Rattle.tam_graph.specs.Written.{IsWritten}
+use Rattle.tam_split.specs.GraphPartitions.{are_valid}
+
+-- a node with a name in the body
+abbrev pub named : List ℕ → ℕ → Kind → Node
+named n d k = record { name = Some n; depth = d; block = 0; kind = k }
+
+-- and one without
+abbrev pub nameless : Kind → Node
+nameless k = record { name = None; depth = 0; block = 0; kind = k }
+
+-- a graph of one code with one block
+abbrev pub one_block : List Node → Graph
+one_block nodes = graph_of (record { name = main_name; nodes = nodes; owners = None ∷ [] } ∷ [])
+
+-- no number but 0 is below 1
+only-zero : (n : ℕ) → nat_lt (suc n) 1 ≡ true → ⊥
+only-zero n h = absurd (grind (arith, tests))
+
+module _ (a b s : List ℕ) where
+  -- the sum of two params
+  abbrev pub sum_nodes : List Node
+  sum_nodes = named a 0 (Param 0) ∷ named b 0 (Param 1) ∷ named s 0 (Operate Add 0 1) ∷ nameless (Give 0 2) ∷ []
+
+  sum-written : (n : ℕ) → nat_lt n 1 ≡ true → IsWritten 1 (code_of (one_block sum_nodes) n)
+  sum-written zero h = record { nodes_in_order = refl; blocks_in_order = refl; lines = refl; depths = refl; shallow = refl; small_blocks = refl; small = refl }
+  sum-written (suc n) h = absurd (only-zero n h)
+
+  -- is accepted
+  pub sum-accepted : IsAccepted (one_block sum_nodes)
+  sum-accepted = record { has_main = refl; few_codes = refl; written = sum-written; no_fault = refl }
+
+module _ (n cells z v x y : List ℕ) where
+  -- a cell that is read and never written, beside a sum
+  abbrev pub waiting_nodes : List Node
+  waiting_nodes =
+      named n 0 (Const 1) ∷ named cells 1 (Alloc 0) ∷ named z 0 (Const 0) ∷ named v 0 (Fetch 1 2) ∷ named x 0 (Param 0) ∷ named y 0 (Operate Add 4 0)
+      ∷ nameless (Give 0 3) ∷ nameless (Give 1 5) ∷ []
+
+  waiting-written : (m : ℕ) → nat_lt m 1 ≡ true → IsWritten 1 (code_of (one_block waiting_nodes) m)
+  waiting-written zero h = record {
+    nodes_in_order = refl;
+    blocks_in_order = refl;
+    lines = refl;
+    depths = refl;
+    shallow = refl;
+    small_blocks = refl;
+    small = refl;
+  }
+  waiting-written (suc m) h = absurd (only-zero m h)
+
+  -- is accepted
+  pub waiting-accepted : IsAccepted (one_block waiting_nodes)
+  waiting-accepted = record { has_main = refl; few_codes = refl; written = waiting-written; no_fault = refl }
+
+  -- its classes, all merged that may be, are a valid partition
+  pub waiting-valid : are_valid (one_block waiting_nodes) ((((0 ∷ 1 ∷ 3 ∷ []) ∷ (2 ∷ 4 ∷ []) ∷ (5 ∷ 8 ∷ []) ∷ (6 ∷ 7 ∷ 9 ∷ []) ∷ []) ∷ []) ∷ []) ≡ true
+  waiting-valid = refl
+
+  -- it takes one argument
+  pub waiting-arguments : AreArguments (one_block waiting_nodes) (6 ∷ [])
+  waiting-arguments = record { one_each = refl; words = six }
+    where
+      six : (k w : ℕ) → slice_get (6 ∷ []) k ≡ Some w → w < 2 ^ 32
+      six zero w h = let e : 6 ≡ w = cc in omega (arith, e)
+      six (suc k) w h = let no_word : None ≡ Some w = h in cc

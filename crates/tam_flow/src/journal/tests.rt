@@ -1,0 +1,163 @@
+// Journals of small graphs. Which of them are legal is worked by hand.
+ghost use Rattle.std.specs.Prelude.{◌≡◌, ◌<◌, [], ◌∷◌, true, length, IfOk};
+ghost use Rattle.tam_graph.specs.Graphs.{AreArguments};
+ghost use Rattle.tam_split.specs.GraphPartitions.{are_valid};
+ghost use Rattle.tam_flow.specs.CheckedEvents.{partitions_of};
+
+use crate::JournalEvent::{Deliver, Run};
+use crate::{JournalEvent, check_journal};
+use std::alloc::Global;
+use std::test::Fail;
+use tam_graph::{Accepted, Code, Graph, Kind, Name, Node};
+use tam_split::Parts;
+use tam_word::Op;
+
+fn name(bytes: &[u8]) -> Result<Name, Fail>
+    ensures { IfOk result (λ name. name ≡ bytes.now) }
+{
+    match Name::of(bytes) {
+        Some(name) => Ok(name),
+        None => Err(Fail::from("this is no name")),
+    }
+}
+
+fn node(name: Option<Name>, depth: u8, kind: Kind) -> Node
+    ensures { result ≡ record { name = name; depth = depth; block = 0; kind = kind } }
+{
+    Node {
+        name,
+        depth,
+        block: 0,
+        kind,
+    }
+}
+
+// dg 1 / code main / a = param 0 / b = param 1 / s = add a b / result 0 s / end
+fn sum(alloc: Global) -> Result<Accepted, Fail>
+    ensures valid { IfOk result (λ g. are_valid g ((((0 ∷ 1 ∷ 2 ∷ 3 ∷ []) ∷ []) ∷ []) ∷ []) ≡ true) }
+    ensures arguments { IfOk result (λ g. AreArguments g (2 ∷ 3 ∷ [])) }
+{
+    let main = name(b"main")?;
+    let a = name(b"a")?;
+    let b = name(b"b")?;
+    let s = name(b"s")?;
+    let nodes = vec![in alloc;
+        node(Some(a), 0, Kind::Param { place: 0 }),
+        node(Some(b), 0, Kind::Param { place: 1 }),
+        node(
+            Some(s),
+            0,
+            Kind::Op {
+                op: Op::Add,
+                a: 0,
+                b: 1
+            }
+        ),
+        node(None, 0, Kind::Give { place: 0, a: 2 }),
+    ]?;
+    let owners = vec![in alloc; None]?;
+    let codes = vec![in alloc; Code::of(main, nodes, owners)]?;
+    Ok(Accepted::of(Graph::of(codes)))
+}
+
+// One class for the four vertices of its block.
+fn one_class(alloc: Global) -> Result<Vec<Vec<Parts>>, Fail>
+    ensures { IfOk result (λ parts. partitions_of parts.items ≡ (((0 ∷ 1 ∷ 2 ∷ 3 ∷ []) ∷ []) ∷ []) ∷ []) }
+{
+    let mut class = Parts::single(alloc, 4)?;
+    class.merge(0, 1);
+    class.merge(0, 1);
+    class.merge(0, 1);
+    let parts = vec![in alloc; vec![in alloc; class]?]?;
+    Ok(parts)
+}
+
+// Whether the list is a journal of the sum of 2 and 3.
+fn is_journal(alloc: Global, events: &[JournalEvent]) -> Result<bool, Fail>
+    requires { length events.now < 9 }
+{
+    let graph = sum(alloc)?;
+    let parts = one_class(alloc)?;
+    let legal = check_journal(alloc, &graph, &parts, &[2, 3], events)?;
+    Ok(legal)
+}
+
+#[test]
+fn journals_of_a_sum(rt: HostRuntime) -> Result<(), Fail> {
+    let run = Run {
+        act: 0,
+        block: 0,
+        class: 0,
+    };
+    let deliver = [0, 1, 2].map(|message| Deliver { message });
+    let cases: [(&[JournalEvent], bool); 8] = [
+        (&[], true),
+        (&[deliver[0], deliver[1], run, deliver[2]], true),
+        (&[run], false),
+        (&[deliver[0], deliver[0]], false),
+        (&[deliver[0], run], false),
+        (&[deliver[2]], false),
+        (&[deliver[0], deliver[1], run, run], false),
+        (&[deliver[1], deliver[0], run, deliver[2]], true),
+    ];
+    for (events, legal) in cases {
+        assert!(rt; events.len() <= 4);
+        assert_eq!(rt; is_journal(rt.alloc(), events)?, legal, "for {events:?}");
+    }
+    Ok(())
+}
+
+// dg 1 / code main / n = const 1 / A:1 = alloc n / z = const 0 / v = fetch A z / x = param 0 / y = add x n / result 0 v / result 1 y / end
+fn waiting(alloc: Global) -> Result<Accepted, Fail>
+    ensures valid { IfOk result (λ g. are_valid g ((((0 ∷ 1 ∷ 3 ∷ []) ∷ (2 ∷ 4 ∷ []) ∷ (5 ∷ 8 ∷ []) ∷ (6 ∷ 7 ∷ 9 ∷ []) ∷ []) ∷ []) ∷ []) ≡ true) }
+    ensures arguments { IfOk result (λ g. AreArguments g (6 ∷ [])) }
+{
+    let main = name(b"main")?;
+    let n = name(b"n")?;
+    let cells = name(b"A")?;
+    let z = name(b"z")?;
+    let v = name(b"v")?;
+    let x = name(b"x")?;
+    let y = name(b"y")?;
+    let sum = Kind::Op {
+        op: Op::Add,
+        a: 4,
+        b: 0,
+    };
+    let nodes = vec![in alloc;
+        node(Some(n), 0, Kind::Const { word: 1 }),
+        node(Some(cells), 1, Kind::Alloc { len: 0 }),
+        node(Some(z), 0, Kind::Const { word: 0 }),
+        node(Some(v), 0, Kind::Fetch { array: 1, index: 2 }),
+        node(Some(x), 0, Kind::Param { place: 0 }),
+        node(Some(y), 0, sum),
+        node(None, 0, Kind::Give { place: 0, a: 3 }),
+        node(None, 0, Kind::Give { place: 1, a: 5 }),
+    ]?;
+    let owners = vec![in alloc; None]?;
+    let codes = vec![in alloc; Code::of(main, nodes, owners)]?;
+    Ok(Accepted::of(Graph::of(codes)))
+}
+
+// The classes 0 1 3, 2 4, 5 8 and 6 7 9 of the ten vertices of its block: what is cut has two.
+fn four_classes(alloc: Global) -> Result<Vec<Vec<Parts>>, Fail>
+    ensures { IfOk result (λ parts. partitions_of parts.items ≡ (((0 ∷ 1 ∷ 3 ∷ []) ∷ (2 ∷ 4 ∷ []) ∷ (5 ∷ 8 ∷ []) ∷ (6 ∷ 7 ∷ 9 ∷ []) ∷ []) ∷ []) ∷ []) }
+{
+    let mut classes = Parts::single(alloc, 10)?;
+    classes.merge(0, 1);
+    classes.merge(0, 2);
+    classes.merge(1, 2);
+    classes.merge(2, 5);
+    classes.merge(3, 4);
+    classes.merge(3, 4);
+    let parts = vec![in alloc; vec![in alloc; classes]?]?;
+    Ok(parts)
+}
+
+#[test]
+fn an_empty_list_is_a_journal(rt: HostRuntime) -> Result<(), Fail> {
+    let graph = waiting(rt.alloc())?;
+    let parts = four_classes(rt.alloc())?;
+    assert!(rt; check_journal(rt.alloc(), &graph, &parts, &[6], &[])?);
+    Ok(())
+}

@@ -94,13 +94,13 @@ module _ (b : BlockGraph) (graph : IsBlockGraph b) (few : length b.vertices ≤ 
             → (t : Bool) → reaches b.edges i o ≡ t → reaches b.edges i o ≡ true
         kept s t i o p q m true e = e
         kept s t i o p q m false e = absurd (apart (lost-apart b (length b.vertices) ps parts k l below within valid.keeps (record {
-              inlet = i;
-              outlet = o;
-              is_inlet = p;
-              is_outlet = q;
-              leads = m;
-              misses = e;
-            })))
+          inlet = i;
+          outlet = o;
+          is_inlet = p;
+          is_outlet = q;
+          leads = m;
+          misses = e;
+        })))
           where
             apart : Apart b ps k l → ⊥
             apart (inl w) = within-no_leak b graph few ps parts k l t w

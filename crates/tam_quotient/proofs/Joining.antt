@@ -117,9 +117,11 @@ module _ (b : BlockGraph) (graph : IsBlockGraph b) (few : length b.vertices ≤ 
       let small : x < 128 = omega (arith, least, low) in
       let ahead = has-where (leads_to b.edges ps k) x small ∙ leads-leads_to b ps k x p in
       let behind = has-where (λ c. nat_lt c (length ps) && leads_to b.edges ps c l) x small
-      ∙ true-both (nat_lt x (length ps)) (leads_to b.edges ps x l) (below-test x (length ps) low) (leads-leads_to b ps x l q) in
-      (small, has-where (λ y. has (ahead_of b ps k) y && has (behind_of b ps l) y) x small
-      ∙ true-both (has (ahead_of b ps k) x) (has (behind_of b ps l) x) ahead behind)
+      ∙ true-both (nat_lt x (length ps)) (leads_to b.edges ps x l) (below-test x (length ps) low) (leads-leads_to b ps x l q) in (
+        small,
+        has-where (λ y. has (ahead_of b ps k) y && has (behind_of b ps l) y) x small
+            ∙ true-both (has (ahead_of b ps k) x) (has (behind_of b ps l) x) ahead behind,
+      )
 
   -- and a member of that set is on a way
   pub member-way : (k l x : ℕ) → x < 128 → has (on_way k l) x ≡ true → ClassLeads b ps k x × ClassLeads b ps x l

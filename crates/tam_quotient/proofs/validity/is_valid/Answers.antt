@@ -23,8 +23,10 @@ returns-then-not-keeps c =
     let p = c.args.p.now in
     let low : c.loop-place.place < length b.vertices = omega (arith, c.loop-place-test.true, ap length c.vertices.ensures.value) in
     let kept = sym c.keeps.ensures.value ∙ c.if-not-keeps.true in
-    record { value = sym (not_kept-not_valid b c.edges-edge-end.ensures.block c.vertices.ensures.few p (partition-parts b p c.requires.whole)
-        (all_of-fails (keeps_outlet b p) c.loop-place.place kept (below (length b.vertices)) (has-below (length b.vertices) c.loop-place.place low))) }
+    record {
+      value = sym (not_kept-not_valid b c.edges-edge-end.ensures.block c.vertices.ensures.few p (partition-parts b p c.requires.whole)
+          (all_of-fails (keeps_outlet b p) c.loop-place.place kept (below (length b.vertices)) (has-below (length b.vertices) c.loop-place.place low)));
+    }
 
 pub loop-place-preserved : goal.loop-place-preserved
 loop-place-preserved c =

@@ -17,7 +17,7 @@ pub fn depends(alloc: Global, b: &BlockGraph) -> Result<Vec<Set>, NoMemory>
     let vertices = b.vertices();
     let edges = b.edges();
     let mut sets = each_alone(alloc, vertices.len() as u32)?;
-    // Of a walk by the edges from this one on, the first that is this edge comes after edges behind it.
+    // With each edge, what reached its giver reaches all that its taker reached by the edges behind it.
     for place in (0..edges.len()).rev() {
         let (giver, taker) = edges[place];
         spread(&mut sets, taker, giver);

@@ -146,11 +146,14 @@ module _ (g : Graph) (codes : ℕ) (c : Code) (are : AreNamed g codes c) (code :
   pub number-back : (r : Role) (t : List ℕ) (a : ℕ) → is_no_code r ≡ true → is_token t (role_token g c r a) ≡ true → is_right codes c r a ≡ true
       → (number_for (record { nodes = nodes_from 0 ss []; codes = es }) r t ≡ a)
       × (is_node_found (nodes_from 0 ss []) r t ≡ true) × (is_code_found es r t ≡ true)
-  number-back role.Value t a n h k = let m = node-found g codes c are code ss lined role.Value a (operand-named c a k) t h in
+  number-back role.Value t a n h k =
+      let m = node-found g codes c are code ss lined role.Value a (operand-named c a k) t h in
       (ap or_number m.1 ∙ m.2, ap (is_made role.Value) m.1 ∙ m.3, refl)
-  number-back role.Call t a n h k = let m = node-found g codes c are code ss lined role.Call a (call-named c a k) t h in
+  number-back role.Call t a n h k =
+      let m = node-found g codes c are code ss lined role.Call a (call-named c a k) t h in
       (ap or_number m.1 ∙ m.2, ap (is_made role.Call) m.1 ∙ m.3, refl)
-  number-back role.Cond t a n h k = let m = node-found g codes c are code ss lined role.Cond a (cond-named c a k) t h in
+  number-back role.Cond t a n h k =
+      let m = node-found g codes c are code ss lined role.Cond a (cond-named c a k) t h in
       (ap or_number m.1 ∙ m.2, ap (is_made role.Cond) m.1 ∙ m.3, refl)
   number-back role.Callee t a n h k =
       let is = same_equal t (code_of g a).name h in

@@ -87,8 +87,8 @@ module _ (g : Graph) (codes : ℕ) (c : Code) (are : AreNamed g codes c)
   numbers-of : (x : ℕ) (s : Sentence) (w : Says g c x s) → AreEqual (roles_of (verb_of w.node.kind))
       (first_number (record { nodes = nodes_from 0 ss []; codes = es }) (roles_of (verb_of w.node.kind)) s.rest)
       (second_number (record { nodes = nodes_from 0 ss []; codes = es }) (roles_of (verb_of w.node.kind)) s.rest)
-      (third_number (record { nodes = nodes_from 0 ss []; codes = es }) (roles_of (verb_of w.node.kind)) s.rest) (first_of_kind w.node.kind)
-      (second_of_kind w.node.kind) (third_of_kind w.node.kind)
+      (third_number (record { nodes = nodes_from 0 ss []; codes = es }) (roles_of (verb_of w.node.kind)) s.rest)
+      (first_of_kind w.node.kind) (second_of_kind w.node.kind) (third_of_kind w.node.kind)
       × AreKnown (record { nodes = nodes_from 0 ss []; codes = es }) (roles_of (verb_of w.node.kind)) s.rest
   numbers-of x s w =
       let k = w.node.kind in

@@ -178,8 +178,8 @@ form-named v r n rest e l = rw (has_form, e) (eq-number (length rest) (length (r
 
 module _ (g : Graph) (codes : ℕ) (c : Code) (are : AreNamed g codes c) (x : ℕ) (n : Node) (there : slice_get c.nodes x ≡ Some n)
     (right : IsRightNode codes c n) where
-  behind : (ts : List (List ℕ)) → same_line ts
-      (three_tokens g c (roles_of (verb_of n.kind)) (first_of_kind n.kind) (second_of_kind n.kind) (third_of_kind n.kind)) ≡ true
+  behind : (ts : List (List ℕ))
+      → same_line ts (three_tokens g c (roles_of (verb_of n.kind)) (first_of_kind n.kind) (second_of_kind n.kind) (third_of_kind n.kind)) ≡ true
       → AreTokens (roles_of (verb_of n.kind)) ts
   behind ts h =
       tokens-are g codes c are (roles_of (verb_of n.kind)) (first_of_kind n.kind) (second_of_kind n.kind) (third_of_kind n.kind) ts (few-roles (verb_of n.kind))

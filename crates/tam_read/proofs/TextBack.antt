@@ -115,8 +115,9 @@ differ-parts (x ∷ xs) ys d =
 
 differ-lines : (ss : List Sentence) → all_differ same_bytes (flat_map names_made ss) ≡ true → DifferBehind ss
 differ-lines [] d = tt
-differ-lines (s ∷ ss) d = let p =
-    differ-parts (names_made s) (flat_map names_made ss) (ap (all_differ same_bytes) (sym (flat_map-cons names_made s ss)) ∙ d) in (p.0, differ-lines ss p.1)
+differ-lines (s ∷ ss) d =
+    let p = differ-parts (names_made s) (flat_map names_made ss) (ap (all_differ same_bytes) (sym (flat_map-cons names_made s ss)) ∙ d) in
+    (p.0, differ-lines ss p.1)
 
 -- ---- new codes
 
@@ -173,9 +174,8 @@ module _ (g : Graph) (codes : ℕ) (few : codes ≤ 256) (c : Code) (are : AreNa
 
   nodes-are : c.nodes ≡ tree_nodes (known_of es d) d.body 0 1
   nodes-are =
-      nodes-same g codes c are (node-right codes c of) a_code
-      (body_lines d) lined es known d.body said.numbered.tree said.same said.numbered.stands said.numbered.nodes
-      said.numbered.blocks said.says said.numbered.many
+      nodes-same g codes c are (node-right codes c of) a_code (body_lines d) lined es known d.body said.numbered.tree said.same
+      said.numbered.stands said.numbered.nodes said.numbered.blocks said.says said.numbered.many
 
   owners-are : c.owners ≡ None ∷ tree_owners d.body 0
   owners-are = said.numbered.owners ∙ ap (λ os. None ∷ os) (owners-back d.body said.numbered.tree 0 said.same said.numbered.nodes)
@@ -242,8 +242,8 @@ module _ (g : Graph) (codes : ℕ) (few : codes ≤ 256) (c : Code) (are : AreNa
   bounded =
       let q = known_of es d in
       let long : length c.owners ≡ suc (opened (shape d.body)) = few-blocks (known_of es d) d.body c of-tree in
-      let holds = holds-back g codes c are (node-right codes c of) a_code
-      (body_lines d) lined es known d.body said.numbered.tree 0 0 1 said.same said.numbered.stands said.numbered.nodes said.numbered.blocks said.says in
+      let holds = holds-back g codes c are (node-right codes c of) a_code (body_lines d) lined es known d.body said.numbered.tree 0 0 1 said.same
+      said.numbered.stands said.numbered.nodes said.numbered.blocks said.says in
       let owned : Owned c d.body 0 1 = owns c d.body 0 1 (None ∷ []) [] (owners-are ∙ ap (λ os. None ∷ os) (sym (append-nil (tree_owners d.body 0)))) refl in
       let first : slice_get c.owners 0 ≡ Some None = ap (λ os. slice_get os 0) owners-are in
       let shallow : (z : ℕ) → z < length c.owners → depth_of_block (length c.owners) c z ≤ 16 = λ z l.

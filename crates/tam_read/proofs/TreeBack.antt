@@ -55,8 +55,7 @@ split-lines (w ∷ ws) (l ∷ ls) ms h =
       front = w ∷ i.front;
       back = i.back;
       parts = ap (λ vs. w ∷ vs) i.parts;
-      first =
-          both-hold (same_line w l) (same_lines i.front ls) p.0 i.first;
+      first = both-hold (same_line w l) (same_lines i.front ls) p.0 i.first;
       second = i.second;
     }
 
@@ -145,8 +144,8 @@ module _ (g : Graph) (codes : ℕ) (c : Code) (are : AreNamed g codes c) (right 
       let vn = numbered_visits ns in
       let vr = numbered_visits r in
       let show : List Visit → List Line = map (visit_line g c) in
-      let shown : show (numbered_visits (Cond1 y p a d ys ns r)) ≡ node_line g c y
-      ∷ (show vy ++ (visit_line g c (AtElse y) ∷ (show vn ++ (end_line ∷ show vr)))) =
+      let shown : show (numbered_visits (Cond1 y p a d ys ns r))
+      ≡ node_line g c y ∷ (show vy ++ (visit_line g c (AtElse y) ∷ (show vn ++ (end_line ∷ show vr)))) =
       ap show (branch-visits y vy vn vr)
       ∙ ap (λ ls. node_line g c y ∷ ls) (map-append (visit_line g c) vy (AtElse y ∷ (vn ++ (AtEnd y ∷ vr)))
       ∙ ap (λ ls. show vy ++ (visit_line g c (AtElse y) ∷ ls)) (map-append (visit_line g c) vn (AtEnd y ∷ vr))) in

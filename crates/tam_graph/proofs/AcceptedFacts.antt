@@ -99,7 +99,8 @@ module _ (g : Graph) (acc : IsAccepted g) (n : ℕ) (l : n < length g.codes) whe
 
     -- its line names nodes of the right kind
     pub right-line : is_line (length g.codes) (code_of g n) (kind_at (code_of g n) x) ≡ true
-    right-line = all-in (λ (x : ℕ). is_line (length g.codes) (code_of g n) (kind_at (code_of g n) x)) (node_numbers (code_of g n)) ((acc.written n (below-test n (length g.codes) l)).lines) x (below-in x (length (code_of g n).nodes) m)
+    right-line = all-in (λ (x : ℕ). is_line (length g.codes) (code_of g n) (kind_at (code_of g n) x)) (node_numbers (code_of g n))
+        ((acc.written n (below-test n (length g.codes) l)).lines) x (below-in x (length (code_of g n).nodes) m)
 
 -- ---- what lines name
 

@@ -14,7 +14,8 @@ use Rattle.tam_graph.proofs.AcceptedFacts.{node-there, right-depth, right-main}
 -- a node that passes the test has the depth that all such have
 all-depths-at : (c : Code) (test : Kind → Bool) (d x : ℕ) → x < length c.nodes → test (kind_at c x) ≡ true → all_depths c test d ≡ true → depth_at c x ≡ d
 all-depths-at c test d x l t h =
-    number-eq (depth_at c x) d (all-in (λ (x : ℕ). depth_at c x == d) (filter (λ x. test (kind_at c x)) (node_numbers c)) h x (filter-in (λ (x : ℕ). test (kind_at c x)) x (node_numbers c) (below-in x (length c.nodes) l) t))
+    number-eq (depth_at c x) d (all-in (λ (x : ℕ). depth_at c x == d) (filter (λ x. test (kind_at c x)) (node_numbers c)) h x
+    (filter-in (λ (x : ℕ). test (kind_at c x)) x (node_numbers c) (below-in x (length c.nodes) l) t))
 
 -- and so in a block
 pub enters-depth-at : (c : Code) (k d b x : ℕ) → x < length c.nodes → kind_at c x ≡ Enter k → block_at c x ≡ b → enters_depth c k d b ≡ true
@@ -58,7 +59,8 @@ module _ (g : Graph) (acc : IsAccepted g) (n : ℕ) (l : n < length g.codes) whe
   ret-depth x f k a y e d =
       let h = right-depth g acc n l x (node-there (code_of g n) x (λ z. cc)) in
       let all = all-in (λ (y : ℕ). gives_depth (code_of g (callee_of (code_of g n) f)) k (depth_at (code_of g n) x)
-      (kind_at (code_of g (callee_of (code_of g n) f)) y)) (node_numbers (code_of g (callee_of (code_of g n) f))) (rw e at h) y (below-in y _ (node-there (code_of g (callee_of (code_of g n) f)) y (λ z. cc))) in
+      (kind_at (code_of g (callee_of (code_of g n) f)) y)) (node_numbers (code_of g (callee_of (code_of g n) f))) (rw e at h) y
+      (below-in y _ (node-there (code_of g (callee_of (code_of g n) f)) y (λ z. cc))) in
       let one = rw d at all in
       number-eq (depth_at (code_of g (callee_of (code_of g n) f)) a) (depth_at (code_of g n) x) (rw (self-eq k) at one)
 
@@ -105,7 +107,8 @@ module _ (g : Graph) (acc : IsAccepted g) (n : ℕ) (l : n < length g.codes) whe
   leave-depth x k a d y e o m =
       let h = right-depth g acc n l x (node-there (code_of g n) x (λ z. cc)) in
       let one = rw e at h in
-      let all = all-in (λ (d : ℕ). all_depths (code_of g n) (is_merge d k) (depth_at (code_of g n) a)) (owner_of (code_of g n) (block_at (code_of g n) x)) one d (rw o (inl refl)) in
+      let all = all-in (λ (d : ℕ). all_depths (code_of g n) (is_merge d k) (depth_at (code_of g n) a))
+      (owner_of (code_of g n) (block_at (code_of g n) x)) one d (rw o (inl refl)) in
       all-depths-at (code_of g n) (is_merge d k) (depth_at (code_of g n) a) y (node-there (code_of g n) y (λ z. cc)) (rw (m, self-eq d, self-eq k) refl) all
 
   -- a param of `main` is a word

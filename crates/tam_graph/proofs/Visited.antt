@@ -75,7 +75,9 @@ filter-split test xs ys = filter-append test xs ys
 
 none_pass : (test : ℕ → Bool) (x m : ℕ) → ((z : ℕ) → x ≤ z → z < x + m → test z ≡ false) → filter test (rising x m) ≡ []
 none_pass test x zero h = refl
-none_pass test x (suc m) h = let here : test x ≡ false = h x (omega arith) (omega arith) in rw here (none_pass test (suc x) m (λ z le lt. h z (omega arith) (omega arith)))
+none_pass test x (suc m) h =
+    let here : test x ≡ false = h x (omega arith) (omega arith) in
+    rw here (none_pass test (suc x) m (λ z le lt. h z (omega arith) (omega arith)))
 
 -- ---- the blocks of a tree's nodes
 
@@ -102,7 +104,8 @@ labels c (Branch y n r) b x k a z le lt =
     elim (cases_lt x z) [
       | inr same ↦ let e : x ≡ z = omega arith in inl (subst (λ (y : ℕ). block_at c y ≡ b) e a.0)
       | inl more ↦ elim (cases_lt z (suc x + size y)) [
-        | inl in_y ↦ wider b k k (suc k) _ (suc k + opened y) (block_at c z) (labels c y k (suc x) (suc k) a.2 z (omega arith) in_y) (λ e. inr (omega (arith, e), omega (arith, e))) (omega arith) (omega arith)
+        | inl in_y ↦ wider b k k (suc k) _ (suc k + opened y) (block_at c z) (labels c y k (suc x) (suc k) a.2 z (omega arith) in_y)
+            (λ e. inr (omega (arith, e), omega (arith, e))) (omega arith) (omega arith)
         | inr past_y ↦ elim (cases_lt z (suc x + size y + size n)) [
           | inl in_n ↦ wider b (suc k + opened y) k (suc (suc k + opened y)) _ (suc (suc k + opened y) + opened n) (block_at c z)
               (labels c n (suc k + opened y) (suc x + size y) (suc (suc k + opened y)) a.3 z past_y in_n) (λ e. inr (
@@ -170,14 +173,18 @@ module _ (c : Code) (y n r : Items) (b x k : ℕ) (a : Agrees c (Branch y n r) b
   at_cond z k' most' e lo = inl (let w : block_at c z ≡ b = ap (block_at c) e ∙ a.0 in omega arith)
 
   in_y : (z k' most' : ℕ) → suc x ≤ z → z < x1 → k1 ≤ k' → Apart k' most' (block_at c z)
-  in_y z k' most' lo hi far = elsewhere k (suc k) (suc k + opened y) k' most' (block_at c z) (labels c y k (suc x) (suc k) a.2 z lo hi) (inl (omega arith)) (inl (omega arith))
+  in_y z k' most' lo hi far =
+      elsewhere k (suc k) (suc k + opened y) k' most' (block_at c z) (labels c y k (suc x) (suc k) a.2 z lo hi) (inl (omega arith)) (inl (omega arith))
 
   in_n : (z k' most' : ℕ) → x1 ≤ z → z < x2 → (most' ≤ k1) ⊎ (k2 ≤ k') → Apart k' most' (block_at c z)
-  in_n z k' most' lo hi (inl s) = elsewhere k1 (suc k1) k2 k' most' (block_at c z) (labels c n k1 x1 (suc k1) a.3 z lo hi) (inr (omega arith)) (inr (omega arith))
-  in_n z k' most' lo hi (inr s) = elsewhere k1 (suc k1) k2 k' most' (block_at c z) (labels c n k1 x1 (suc k1) a.3 z lo hi) (inl (omega arith)) (inl (omega arith))
+  in_n z k' most' lo hi (inl s) =
+      elsewhere k1 (suc k1) k2 k' most' (block_at c z) (labels c n k1 x1 (suc k1) a.3 z lo hi) (inr (omega arith)) (inr (omega arith))
+  in_n z k' most' lo hi (inr s) =
+      elsewhere k1 (suc k1) k2 k' most' (block_at c z) (labels c n k1 x1 (suc k1) a.3 z lo hi) (inl (omega arith)) (inl (omega arith))
 
   in_r : (z k' most' : ℕ) → x2 ≤ z → z < x2 + size r → k ≤ k' → most' ≤ k2 → Apart k' most' (block_at c z)
-  in_r z k' most' lo hi far near = elsewhere b k2 (k2 + opened r) k' most' (block_at c z) (labels c r b x2 k2 a.4 z lo hi) (inl (omega arith)) (inr (omega arith))
+  in_r z k' most' lo hi far near =
+      elsewhere b k2 (k2 + opened r) k' most' (block_at c z) (labels c r b x2 k2 a.4 z lo hi) (inl (omega arith)) (inr (omega arith))
 
   -- the then block's nodes and those of the blocks in it stand in its lines alone
   out_y : (z : ℕ) → (z < suc x) ⊎ (x1 ≤ z) → Apart k k1 (block_at c z)
@@ -185,7 +192,10 @@ module _ (c : Code) (y n r : Items) (b x k : ℕ) (a : Agrees c (Branch y n r) b
   out_y z (inr h) =
       elim (cases_lt z x2) [
         | inl lt ↦ in_n z k k1 h lt (inl (omega arith))
-        | inr le ↦ elim (cases_lt z (x2 + size r)) [ inl lt ↦ in_r z k k1 le lt (omega arith) (omega arith) | inr past ↦ outer z k k1 (inr past) (omega arith) (omega arith) ]
+        | inr le ↦ elim (cases_lt z (x2 + size r)) [
+          | inl lt ↦ in_r z k k1 le lt (omega arith) (omega arith)
+          | inr past ↦ outer z k k1 (inr past) (omega arith) (omega arith)
+        ]
       ]
 
   out_n : (z : ℕ) → (z < x1) ⊎ (x2 ≤ z) → Apart k1 k2 (block_at c z)
@@ -194,7 +204,11 @@ module _ (c : Code) (y n r : Items) (b x k : ℕ) (a : Agrees c (Branch y n r) b
         | inl lt ↦ outer z k1 k2 (inl lt) (omega arith) (omega arith)
         | inr le ↦ elim (cases_lt x z) [ inl lt ↦ in_y z k1 k2 (omega arith) h (omega arith) | inr same ↦ at_cond z k1 k2 (omega arith) (omega arith) ]
       ]
-  out_n z (inr h) = elim (cases_lt z (x2 + size r)) [ inl lt ↦ in_r z k1 k2 h lt (omega arith) (omega arith) | inr past ↦ outer z k1 k2 (inr past) (omega arith) (omega arith) ]
+  out_n z (inr h) =
+      elim (cases_lt z (x2 + size r)) [
+        | inl lt ↦ in_r z k1 k2 h lt (omega arith) (omega arith)
+        | inr past ↦ outer z k1 k2 (inr past) (omega arith) (omega arith)
+      ]
 
   out_r : (z : ℕ) → (z < x2) ⊎ (x2 + size r ≤ z) → Apart k2 (k2 + opened r) (block_at c z)
   out_r z (inr h) = outer z k2 (k2 + opened r) (inr h) (omega arith) (omega arith)
@@ -203,7 +217,10 @@ module _ (c : Code) (y n r : Items) (b x k : ℕ) (a : Agrees c (Branch y n r) b
         | inl lt ↦ outer z k2 (k2 + opened r) (inl lt) (omega arith) (omega arith)
         | inr le ↦ elim (cases_lt x z) [
           | inr same ↦ at_cond z k2 (k2 + opened r) (omega arith) (omega arith)
-          | inl lt ↦ elim (cases_lt z x1) [ inl in_then ↦ in_y z k2 (k2 + opened r) (omega arith) in_then (omega arith) | inr past ↦ in_n z k2 (k2 + opened r) past h (inr (omega arith)) ]
+          | inl lt ↦ elim (cases_lt z x1) [
+            | inl in_then ↦ in_y z k2 (k2 + opened r) (omega arith) in_then (omega arith)
+            | inr past ↦ in_n z k2 (k2 + opened r) past h (inr (omega arith))
+          ]
         ]
       ]
 
@@ -227,7 +244,11 @@ within_rest c r b x k here low f = record {
   where
     out : (z : ℕ) → (z < suc x) ⊎ (suc x + size r ≤ z) → Apart k (k + opened r) (block_at c z)
     out z (inr h) = f.apart z (inr (omega arith))
-    out z (inl h) = elim (cases_lt z x) [ inl lt ↦ f.apart z (inl lt) | inr le ↦ inl (let e : z ≡ x = omega arith in let w : block_at c z ≡ b = ap (block_at c) e ∙ here in omega arith) ]
+    out z (inl h) =
+        elim (cases_lt z x) [
+          | inl lt ↦ f.apart z (inl lt)
+          | inr le ↦ inl (let e : z ≡ x = omega arith in let w : block_at c z ≡ b = ap (block_at c) e ∙ here in omega arith)
+        ]
 
 not_at : (k most d w : ℕ) → Apart k most w → k ≤ d → d < most → w ≡ d → ⊥
 not_at k most d w (inl h) lo hi e = omega arith
@@ -256,8 +277,10 @@ in_row (suc f) c (Branch y n r) b x k a low deep w =
     let v = suc x + size y + size n in
     let all : rising (suc x) (size y + (size n + size r)) ≡ rising (suc x) (size y) ++ (rising u (size n) ++ rising v (size r)) =
     rising-split (suc x) (size y) (size n + size r) ∙ ap (λ xs. rising (suc x) (size y) ++ xs) (rising-split u (size n) (size r)) in
-    let none_y : filter test (rising (suc x) (size y)) ≡ [] = none_pass test (suc x) (size y) (λ z lo hi. ne_eqb (block_at c z) b (not_outer b k j (block_at c z) (labels c y k (suc x) (suc k) a.2 z lo hi) low)) in
-    let none_n : filter test (rising u (size n)) ≡ [] = none_pass test u (size n) (λ z lo hi. ne_eqb (block_at c z) b (not_outer b j m (block_at c z) (labels c n j u (suc j) a.3 z lo hi) (omega arith))) in
+    let none_y : filter test (rising (suc x) (size y)) ≡ [] =
+    none_pass test (suc x) (size y) (λ z lo hi. ne_eqb (block_at c z) b (not_outer b k j (block_at c z) (labels c y k (suc x) (suc k) a.2 z lo hi) low)) in
+    let none_n : filter test (rising u (size n)) ≡ [] =
+    none_pass test u (size n) (λ z lo hi. ne_eqb (block_at c z) b (not_outer b j m (block_at c z) (labels c n j u (suc j) a.3 z lo hi) (omega arith))) in
     let kept : filter test (rising (suc x) (size y + (size n + size r))) ≡ filter test (rising v (size r)) =
     ap (filter test) all ∙ filter-split test (rising (suc x) (size y)) (rising u (size n) ++ rising v (size r))
     ∙ ap (λ xs. xs ++ filter test (rising u (size n) ++ rising v (size r))) none_y

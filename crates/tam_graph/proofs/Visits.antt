@@ -123,9 +123,11 @@ blocks-below limit (suc fuel) c b l h x a = at (visited fuel c b (AtNode x) a) (
       where
         more : (d p y n : ℕ) → kind_at c z ≡ Cond p y n → (d ≡ y) ⊎ (d ≡ n) → (v : Visit) → In v (visits fuel c d) → In v (visits (suc fuel) c b)
         more d p y n is (inl e) v t =
-            behind-visited fuel c b z v m (subst (λ k. In v (branches (visits fuel c) z k)) (sym is) (then-behind (visits fuel c) z p y n v (subst (λ q. In v (visits fuel c q)) e t)))
+            behind-visited fuel c b z v m (subst (λ k. In v (branches (visits fuel c) z k)) (sym is)
+            (then-behind (visits fuel c) z p y n v (subst (λ q. In v (visits fuel c q)) e t)))
         more d p y n is (inr e) v t =
-            behind-visited fuel c b z v m (subst (λ k. In v (branches (visits fuel c) z k)) (sym is) (else-behind (visits fuel c) z p y n v (subst (λ q. In v (visits fuel c q)) e t)))
+            behind-visited fuel c b z v m (subst (λ k. In v (branches (visits fuel c) z k)) (sym is)
+            (else-behind (visits fuel c) z p y n v (subst (λ q. In v (visits fuel c q)) e t)))
 
         within : (p y n : ℕ) × (kind_at c z ≡ Cond p y n) × (In (AtNode x) (visits fuel c y) ⊎ In (AtNode x) (visits fuel c n)) → block_at c x < limit
         within (p, y, n, is, t) = go t (both-opened (suc fuel) c b z p y n is (here-visited fuel c b z m))

@@ -118,7 +118,8 @@ has_right_depth g c x (Operate o a b) = (depth_at c x == 0) && ((depth_at c a ==
 has_right_depth g c x (Seq a b) = depth_at c x == depth_at c a
 has_right_depth g c x (Call d) = depth_at c x == 0
 has_right_depth g c x (Arg f k a) = all_depths (code_of g (callee_of c f)) (is_param k) (depth_at c a)
-has_right_depth g c x (Ret f k) = all_of (λ y. gives_depth (code_of g (callee_of c f)) k (depth_at c x) (kind_at (code_of g (callee_of c f)) y)) (node_numbers (code_of g (callee_of c f)))
+has_right_depth g c x (Ret f k) =
+    all_of (λ y. gives_depth (code_of g (callee_of c f)) k (depth_at c x) (kind_at (code_of g (callee_of c f)) y)) (node_numbers (code_of g (callee_of c f)))
 has_right_depth g c x (Alloc n) = (depth_at c n == 0) && (nat_lt 0 (depth_at c x) && nat_lt (depth_at c x) 4)
 has_right_depth g c x (Fetch a i) = (depth_at c i == 0) && (depth_at c a == suc (depth_at c x))
 has_right_depth g c x (Store a i v) = (depth_at c i == 0) && (depth_at c a == suc (depth_at c v))

@@ -12,7 +12,8 @@ use Rattle.tam_graph.specs.Written.{in_file_order, in_opening_order, is_line, de
 use Rattle.tam_graph.specs.ExampleGraphs.{plain, deep, sum_graph, back_graph, loop_graph, loop_main, cell_graph, twice_graph, calls_itself, nothing_graph}
 use Rattle.tam_graph.specs.ExampleGraphs.{seq_graph}
 
-none_refused : map faults_of (sum_graph ∷ back_graph ∷ loop_graph ∷ cell_graph ∷ twice_graph ∷ calls_itself ∷ nothing_graph ∷ seq_graph ∷ []) ≡ [] ∷ [] ∷ [] ∷ [] ∷ [] ∷ [] ∷ [] ∷ [] ∷ []
+none_refused : map faults_of (sum_graph ∷ back_graph ∷ loop_graph ∷ cell_graph ∷ twice_graph ∷ calls_itself ∷ nothing_graph ∷ seq_graph ∷ [])
+    ≡ [] ∷ [] ∷ [] ∷ [] ∷ [] ∷ [] ∷ [] ∷ [] ∷ []
 none_refused = refl
 
 loop_is_written : (in_file_order 3 loop_main 0 ≡ node_numbers loop_main)

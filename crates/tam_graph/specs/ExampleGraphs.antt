@@ -49,7 +49,8 @@ loop_main = record {
   name = main_name;
   nodes =
       plain 0 (Param 0) ∷ plain 0 (Param 1) ∷ plain 0 (Cond 0 1 2)
-      ∷ plain 1 (Enter 0) ∷ plain 1 (Enter 1) ∷ plain 1 (Const 1) ∷ plain 1 (Operate Add 3 5) ∷ plain 1 (Operate Add 4 6) ∷ plain 1 (Leave 0 6) ∷ plain 1 (Leave 1 7)
+      ∷ plain 1 (Enter 0) ∷ plain 1 (Enter 1) ∷ plain 1 (Const 1) ∷ plain 1 (Operate Add 3 5) ∷ plain 1 (Operate Add 4 6)
+      ∷ plain 1 (Leave 0 6) ∷ plain 1 (Leave 1 7)
       ∷ plain 2 (Enter 0) ∷ plain 2 (Enter 1) ∷ plain 2 (Leave 0 10) ∷ plain 2 (Leave 1 11)
       ∷ plain 0 (Switch 2 0 1) ∷ plain 0 (Merge 2 0) ∷ plain 0 (Switch 2 1 15) ∷ plain 0 (Merge 2 1) ∷ plain 0 (Give 0 17) ∷ [];
   owners = None ∷ Some 2 ∷ Some 2 ∷ [];
@@ -75,7 +76,9 @@ abbrev pub twice_graph : Graph
 twice_graph = record {
   codes = record {
     name = main_name;
-    nodes = deep 0 (Param 0) ∷ deep 0 (Const 1) ∷ deep 1 (Alloc 1) ∷ deep 0 (Const 0) ∷ deep 0 (Store 2 3 0) ∷ deep 0 (Store 2 3 1) ∷ deep 0 (Fetch 2 3) ∷ deep 0 (Give 0 6) ∷ [];
+    nodes =
+        deep 0 (Param 0) ∷ deep 0 (Const 1) ∷ deep 1 (Alloc 1) ∷ deep 0 (Const 0)
+        ∷ deep 0 (Store 2 3 0) ∷ deep 0 (Store 2 3 1) ∷ deep 0 (Fetch 2 3) ∷ deep 0 (Give 0 6) ∷ [];
     owners = None ∷ [];
   } ∷ [];
   main = 0;
@@ -94,7 +97,9 @@ abbrev pub seq_graph : Graph
 seq_graph = record {
   codes = record {
     name = main_name;
-    nodes = deep 0 (Param 0) ∷ deep 0 (Const 1) ∷ deep 1 (Alloc 1) ∷ deep 0 (Const 0) ∷ deep 0 (Fetch 2 3) ∷ deep 0 (Store 2 3 0) ∷ deep 0 (Seq 4 2) ∷ deep 0 (Give 0 6) ∷ [];
+    nodes =
+        deep 0 (Param 0) ∷ deep 0 (Const 1) ∷ deep 1 (Alloc 1) ∷ deep 0 (Const 0)
+        ∷ deep 0 (Fetch 2 3) ∷ deep 0 (Store 2 3 0) ∷ deep 0 (Seq 4 2) ∷ deep 0 (Give 0 6) ∷ [];
     owners = None ∷ [];
   } ∷ [];
   main = 0;

@@ -1,5 +1,6 @@
 -- The code of a tree of sentences that say a code's nodes is that code.
-use Rattle.std.proofs.Common.{◌≡◌, ℕ, zero, suc, ◌+◌, ◌<◌, ◌≤◌, Bool, true, false, ◌&&◌, nat_lt, List, [], ◌∷◌, ◌++◌, length, map, drop, Option, Some, None, refl, sym, ap, ap₂, subst, ◌∙◌, true≢false, append_assoc, arith, inl, inr}
+use Rattle.std.proofs.Common.{◌≡◌, ℕ, zero, suc, ◌+◌, ◌<◌, ◌≤◌, Bool, true, false, ◌&&◌, nat_lt, List, [], ◌∷◌, ◌++◌, length, map, drop}
+use Rattle.std.proofs.Common.{Option, Some, None, refl, sym, ap, ap₂, subst, ◌∙◌, true≢false, append_assoc, arith, inl, inr}
 use Rattle.std.specs.Prelude.{slice_get}
 use Rattle.std.proofs.lemmas.List.{append-nil, map-append}
 use Rattle.tam_word.specs.Lists.{all_of, same_bytes}
@@ -43,7 +44,8 @@ AreEqual (r ∷ s ∷ []) a b d x y z = (a ≡ x) × (b ≡ y)
 AreEqual (r ∷ s ∷ t ∷ rs) a b d x y z = (a ≡ x) × (b ≡ y) × (d ≡ z)
 
 -- so is the kind
-pub kind-from : (k : Kind) (a b d : ℕ) → AreEqual (roles_of (verb_of k)) a b d (first_of_kind k) (second_of_kind k) (third_of_kind k) → else_kind (else_of_kind k) (kind_made (verb_of k) a b d (then_of_kind k)) ≡ k
+pub kind-from : (k : Kind) (a b d : ℕ) → AreEqual (roles_of (verb_of k)) a b d (first_of_kind k) (second_of_kind k) (third_of_kind k)
+    → else_kind (else_of_kind k) (kind_made (verb_of k) a b d (then_of_kind k)) ≡ k
 kind-from (kind.Param k) a b d e = ap kind.Param e
 kind-from (kind.Const w) a b d e = ap kind.Const e
 kind-from (kind.Op o x y) a b d e = ap₂ (kind.Op o) e.0 e.1
@@ -69,7 +71,8 @@ pub record AreKnown (q : Known) (rs : List Role) (ts : List (List ℕ)) : Type 0
 known-none : (q : Known) → AreKnown q [] []
 known-none q = record { nodes = refl; codes = refl }
 
-known-first : (q : Known) (r : Role) (rs : List Role) (t : List ℕ) (ts : List (List ℕ)) → is_node_found q.nodes r t ≡ true → is_code_found q.codes r t ≡ true → AreKnown q rs ts → AreKnown q (r ∷ rs) (t ∷ ts)
+known-first : (q : Known) (r : Role) (rs : List Role) (t : List ℕ) (ts : List (List ℕ)) → is_node_found q.nodes r t ≡ true → is_code_found q.codes r t ≡ true
+    → AreKnown q rs ts → AreKnown q (r ∷ rs) (t ∷ ts)
 known-first q r rs t ts a b k = record { nodes = rw (each_token, a) k.nodes; codes = rw (each_token, b) k.codes }
 
 -- an element in its row
@@ -87,7 +90,8 @@ pub holds-drop : (c : Code) (q : Known) (t : Tree) (b x k : ℕ) → Holds c q t
 holds-drop c q Done b x k h = let e : x + 0 ≡ x = omega arith in ap (λ z. drop z c.nodes) (sym e)
 holds-drop c q (Plain s r) b x k h =
     let e : suc x + size (shape r) ≡ x + suc (size (shape r)) = omega arith in
-    drop-get c.nodes x (node_plain q b s) h.0 ∙ ap (λ l. node_plain q b s ∷ l) (holds-drop c q r b (suc x) k h.1 ∙ ap (λ z. tree_nodes q r b k ++ drop z c.nodes) e)
+    drop-get c.nodes x (node_plain q b s) h.0
+    ∙ ap (λ l. node_plain q b s ∷ l) (holds-drop c q r b (suc x) k h.1 ∙ ap (λ z. tree_nodes q r b k ++ drop z c.nodes) e)
 holds-drop c q (Branch s y t n e r) b x k h =
     let j = suc k + opened (shape y) in
     let m = suc j + opened (shape n) in
@@ -98,8 +102,10 @@ holds-drop c q (Branch s y t n e r) b x k h =
     let rs = tree_nodes q r b m in
     let last : v + size (shape r) ≡ x + size (shape (Branch s y t n e r)) = omega arith in
     drop-get c.nodes x (node_cond q b k j s) h.0
-    ∙ ap (λ l. node_cond q b k j s ∷ l) (holds-drop c q y k (suc x) (suc k) h.1 ∙ ap (λ l. ys ++ l) (holds-drop c q n j u (suc j) h.2 ∙ ap (λ l. ns ++ l) (holds-drop c q r b v m h.3 ∙ ap (λ z. rs ++ drop z c.nodes) last)
-    ∙ sym (append_assoc ns rs (drop (x + size (shape (Branch s y t n e r))) c.nodes))) ∙ sym (append_assoc ys (ns ++ rs) (drop (x + size (shape (Branch s y t n e r))) c.nodes)))
+    ∙ ap (λ l. node_cond q b k j s ∷ l) (holds-drop c q y k (suc x) (suc k) h.1
+    ∙ ap (λ l. ys ++ l) (holds-drop c q n j u (suc j) h.2 ∙ ap (λ l. ns ++ l) (holds-drop c q r b v m h.3 ∙ ap (λ z. rs ++ drop z c.nodes) last)
+    ∙ sym (append_assoc ns rs (drop (x + size (shape (Branch s y t n e r))) c.nodes)))
+    ∙ sym (append_assoc ys (ns ++ rs) (drop (x + size (shape (Branch s y t n e r))) c.nodes)))
 
 -- the owners that a tree opens
 pub owners-back : (t : Tree) (u : Numbered) (x : ℕ) → shape t ≡ shape_of u → InRow u x → map (λ o. o.1) (openings u) ≡ tree_owners t x
@@ -117,9 +123,11 @@ owners-back (Branch s y t n o r) (Cond1 z p a b ys ns v) x e i =
     let same_r : shape r ≡ shape_of v = cc in
     let turn : ℕ × Option ℕ = (b, Some z) in
     let by = owners-back y ys (suc x) same_y i.1 in
-    let bn : map (λ o. o.1) (openings ns) ≡ tree_owners n (suc x + size (shape y)) = owners-back n ns (suc x + size (shape_of ys)) same_n i.2 ∙ ap (λ w. tree_owners n (suc x + size w)) (sym same_y) in
+    let bn : map (λ o. o.1) (openings ns) ≡ tree_owners n (suc x + size (shape y)) =
+    owners-back n ns (suc x + size (shape_of ys)) same_n i.2 ∙ ap (λ w. tree_owners n (suc x + size w)) (sym same_y) in
     let br : map (λ o. o.1) (openings v) ≡ tree_owners r (suc x + size (shape y) + size (shape n)) =
-    owners-back r v (suc x + size (shape_of ys) + size (shape_of ns)) same_r i.3 ∙ ap₂ (λ w m. tree_owners r (suc x + size w + size m)) (sym same_y) (sym same_n) in
+    owners-back r v (suc x + size (shape_of ys) + size (shape_of ns)) same_r i.3
+    ∙ ap₂ (λ w m. tree_owners r (suc x + size w + size m)) (sym same_y) (sym same_n) in
     ap (λ w. Some w ∷ map (λ o. o.1) (openings ys ++ (turn ∷ (openings ns ++ openings v)))) i.0
     ∙ ap (λ l. Some x ∷ l) (map-append (λ (o : ℕ × Option ℕ). o.1) (openings ys) (turn ∷ (openings ns ++ openings v)) ∙ ap₂ (λ f l. f ++ l) by
     (ap₂ (λ w l. Some w ∷ l) i.0 (map-append (λ (o : ℕ × Option ℕ). o.1) (openings ns) (openings v) ∙ ap₂ (λ f l. f ++ l) bn br)))
@@ -128,17 +136,25 @@ owners-back (Branch s y t n o r) (Cond1 z p a b ys ns v) x e i =
 pub record AreCodes (g : Graph) (codes : ℕ) (es : Entries) : Type 0 where
   pub found_at : (d : ℕ) → d < codes → found (code_of g d).name es ≡ Some (record { role = role.Callee; number = d })
 
-module _ (g : Graph) (codes : ℕ) (c : Code) (are : AreNamed g codes c) (code : IsCode c) (ss : List Sentence) (lined : Lined g c ss 0 (length c.nodes)) (es : Entries) (known : AreCodes g codes es) where
+module _ (g : Graph) (codes : ℕ) (c : Code) (are : AreNamed g codes c) (code : IsCode c) (ss : List Sentence) (lined : Lined g c ss 0 (length c.nodes))
+    (es : Entries) (known : AreCodes g codes es) where
   -- the names that are known in the code
   abbrev pub tables : Known
   tables = record { nodes = nodes_from 0 ss []; codes = es }
 
   -- a token stands for its number, and what it names is found
   pub number-back : (r : Role) (t : List ℕ) (a : ℕ) → is_no_code r ≡ true → is_token t (role_token g c r a) ≡ true → is_right codes c r a ≡ true
-      → (number_for (record { nodes = nodes_from 0 ss []; codes = es }) r t ≡ a) × (is_node_found (nodes_from 0 ss []) r t ≡ true) × (is_code_found es r t ≡ true)
-  number-back role.Value t a n h k = let m = node-found g codes c are code ss lined role.Value a (operand-named c a k) t h in (ap or_number m.1 ∙ m.2, ap (is_made role.Value) m.1 ∙ m.3, refl)
-  number-back role.Call t a n h k = let m = node-found g codes c are code ss lined role.Call a (call-named c a k) t h in (ap or_number m.1 ∙ m.2, ap (is_made role.Call) m.1 ∙ m.3, refl)
-  number-back role.Cond t a n h k = let m = node-found g codes c are code ss lined role.Cond a (cond-named c a k) t h in (ap or_number m.1 ∙ m.2, ap (is_made role.Cond) m.1 ∙ m.3, refl)
+      → (number_for (record { nodes = nodes_from 0 ss []; codes = es }) r t ≡ a)
+      × (is_node_found (nodes_from 0 ss []) r t ≡ true) × (is_code_found es r t ≡ true)
+  number-back role.Value t a n h k =
+      let m = node-found g codes c are code ss lined role.Value a (operand-named c a k) t h in
+      (ap or_number m.1 ∙ m.2, ap (is_made role.Value) m.1 ∙ m.3, refl)
+  number-back role.Call t a n h k =
+      let m = node-found g codes c are code ss lined role.Call a (call-named c a k) t h in
+      (ap or_number m.1 ∙ m.2, ap (is_made role.Call) m.1 ∙ m.3, refl)
+  number-back role.Cond t a n h k =
+      let m = node-found g codes c are code ss lined role.Cond a (cond-named c a k) t h in
+      (ap or_number m.1 ∙ m.2, ap (is_made role.Cond) m.1 ∙ m.3, refl)
   number-back role.Callee t a n h k =
       let is = same_equal t (code_of g a).name h in
       let f : found t es ≡ Some (record { role = role.Callee; number = a }) = ap (λ z. found z es) is ∙ known.found_at a (test-below a codes k) in
@@ -148,8 +164,10 @@ module _ (g : Graph) (codes : ℕ) (c : Code) (are : AreNamed g codes c) (code :
   number-back role.Word t a n h k = (word-back t a h, refl, refl)
 
   -- the numbers of tokens
-  pub numbers-back : (rs : List Role) (x y z : ℕ) (ts : List (List ℕ)) → length rs ≤ 3 → all_of is_no_code rs ≡ true → same_line ts (three_tokens g c rs x y z) ≡ true → AreRight codes c rs x y z
-      → AreEqual rs (first_number (record { nodes = nodes_from 0 ss []; codes = es }) rs ts) (second_number (record { nodes = nodes_from 0 ss []; codes = es }) rs ts) (third_number (record { nodes = nodes_from 0 ss []; codes = es }) rs ts) x y z
+  pub numbers-back : (rs : List Role) (x y z : ℕ) (ts : List (List ℕ)) → length rs ≤ 3 → all_of is_no_code rs ≡ true
+      → same_line ts (three_tokens g c rs x y z) ≡ true → AreRight codes c rs x y z
+      → AreEqual rs (first_number (record { nodes = nodes_from 0 ss []; codes = es }) rs ts)
+      (second_number (record { nodes = nodes_from 0 ss []; codes = es }) rs ts) (third_number (record { nodes = nodes_from 0 ss []; codes = es }) rs ts) x y z
       × AreKnown (record { nodes = nodes_from 0 ss []; codes = es }) rs ts
   numbers-back [] x y z [] few n h k = (tt, known-none (record { nodes = nodes_from 0 ss []; codes = es }))
   numbers-back [] x y z (t ∷ ts) few n h k = absurd (true≢false (sym h))
@@ -183,8 +201,12 @@ module _ (g : Graph) (codes : ℕ) (c : Code) (are : AreNamed g codes c) (code :
       let o = both-true (is_token u (role_token g c s y)) _ p.1 in
       let a = number-back r t x n0.0 p.0 k.0 in
       let b = number-back s u y n1.0 o.0 k.1 in
-      let d = number-back w v z n2.0 (both-true (is_token v (role_token g c w z)) true o.1).0 k.2 in
-      ((a.0, b.0, d.0), known-first q r (s ∷ w ∷ []) t (u ∷ v ∷ []) a.1 a.2 (known-first q s (w ∷ []) u (v ∷ []) b.1 b.2 (known-first q w [] v [] d.1 d.2 (known-none q))))
+      let d = number-back w v z n2.0 (both-true (is_token v (role_token g c w z)) true o.1).0 k.2 in (
+        (a.0, b.0, d.0),
+        known-first q r (s ∷ w ∷ []) t (u ∷ v ∷ []) a.1 a.2
+            (known-first q s (w ∷ []) u (v ∷ []) b.1 b.2 (known-first q w [] v [] d.1 d.2 (known-none q))),
+      )
   numbers-back (r ∷ s ∷ w ∷ []) x y z (t ∷ u ∷ v ∷ o ∷ ts) few n h k =
-      absurd (true≢false (sym (both-true (is_token v (role_token g c w z)) false (both-true (is_token u (role_token g c s y)) _ (both-true (is_token t (role_token g c r x)) _ h).1).1).1))
+      absurd (true≢false (sym (both-true (is_token v (role_token g c w z)) false
+      (both-true (is_token u (role_token g c s y)) _ (both-true (is_token t (role_token g c r x)) _ h).1).1).1))
   numbers-back (r ∷ s ∷ w ∷ o ∷ rs) x y z ts few n h k = absurd (omega arith)

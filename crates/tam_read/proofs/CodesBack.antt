@@ -1,5 +1,6 @@
 -- The lines of the codes of a text's graph are the lines of codes of sentences.
-use Rattle.std.proofs.Common.{◌≡◌, ℕ, zero, suc, ◌+◌, ◌<◌, ◌≤◌, Bool, true, false, ◌&&◌, ◌==◌, nat_lt, List, [], ◌∷◌, ◌++◌, length, map, flat_map, Some, None, refl, sym, ap, ap₂, subst, ◌∙◌, true≢false, append_assoc, arith, inl, inr, ◌⊎◌, ⊎_elim}
+use Rattle.std.proofs.Common.{◌≡◌, ℕ, zero, suc, ◌+◌, ◌<◌, ◌≤◌, Bool, true, false, ◌&&◌, ◌==◌, nat_lt, List, [], ◌∷◌, ◌++◌, length, map, flat_map}
+use Rattle.std.proofs.Common.{Some, None, refl, sym, ap, ap₂, subst, ◌∙◌, true≢false, append_assoc, arith, inl, inr, ◌⊎◌, ⊎_elim}
 use Rattle.std.specs.Prelude.{codes as bytes_of, slice_get, nat_le}
 use Rattle.std.proofs.Math.Dec.{leb}
 use Rattle.std.proofs.lemmas.Bool.{leb-true, cases_lt}
@@ -40,7 +41,8 @@ total-some : (b v n m : ℕ) → n ≤ b → b < n + m → v ≤ total (λ d. wh
 total-some b v n zero lo hi = absurd (omega arith)
 total-some b v n (suc m) lo hi = go (b == n) refl (λ more. total-some b v (suc n) m more (omega arith))
   where
-    go : (t : Bool) → (b == n) ≡ t → (suc n ≤ b → v ≤ total (λ d. where_true (b == d) v) (in_row (suc n) m)) → v ≤ where_true (b == n) v + total (λ d. where_true (b == d) v) (in_row (suc n) m)
+    go : (t : Bool) → (b == n) ≡ t → (suc n ≤ b → v ≤ total (λ d. where_true (b == d) v) (in_row (suc n) m))
+        → v ≤ where_true (b == n) v + total (λ d. where_true (b == d) v) (in_row (suc n) m)
     go true e i = rw e (omega arith)
     go false e i = let j = i (other (λ same. true≢false (sym (eq-number b n same) ∙ e))) in rw e (omega (arith, j))
       where
@@ -78,8 +80,11 @@ pub node-right : (codes : ℕ) (c : Code) → IsCodeOfText codes c → (x : ℕ)
 node-right codes c of x n e =
     let low : x < length c.nodes = within c.nodes x n e in
     let i = below-in x (length c.nodes) low in
-    let line : is_line codes c n.kind ≡ true = ap (λ o. is_line codes c (or_kind o)) (sym e) ∙ all-in (λ x. is_line codes c (kind_at c x)) (node_numbers c) of.written.lines x i in
-    let deep : nat_le n.depth (greatest_depth c x) ≡ true = ap (λ o. nat_le (or_depth o) (greatest_depth c x)) (sym e) ∙ all-in (λ x. nat_le (depth_at c x) (greatest_depth c x)) (node_numbers c) of.written.depths x i in
+    let line : is_line codes c n.kind ≡ true =
+    ap (λ o. is_line codes c (or_kind o)) (sym e) ∙ all-in (λ x. is_line codes c (kind_at c x)) (node_numbers c) of.written.lines x i in
+    let deep : nat_le n.depth (greatest_depth c x) ≡ true =
+    ap (λ o. nat_le (or_depth o) (greatest_depth c x)) (sym e)
+    ∙ all-in (λ x. nat_le (depth_at c x) (greatest_depth c x)) (node_numbers c) of.written.depths x i in
     let named : is_named_right n ≡ true = all-in is_named_right c.nodes of.nodes_named n (get-in c.nodes x n e) in
     record { line = line; named = named; shallow = small (is_operand c x) refl deep; flat = λ h. zero_depth (is_operand c x) refl deep h }
   where
@@ -124,7 +129,8 @@ no-lines : (ws : List (List (List ℕ))) → same_lines ws [] ≡ true → ws �
 no-lines [] h = refl
 no-lines (w ∷ ws) h = absurd (true≢false (sym h))
 
-pub code-back : (g : Graph) (codes : ℕ) (c : Code) → AreNamed g codes c → IsCodeOfText codes c → (ws : List (List (List ℕ))) → same_lines ws (code_lines g c) ≡ true → IsCodeBack g c ws
+pub code-back : (g : Graph) (codes : ℕ) (c : Code) → AreNamed g codes c → IsCodeOfText codes c → (ws : List (List (List ℕ)))
+    → same_lines ws (code_lines g c) ≡ true → IsCodeBack g c ws
 code-back g codes c are of ws h =
     let u = written-numbered codes c of.written in
     let body_lines : List Line = map (visit_line g c) (numbered_visits u.tree) in

@@ -1,5 +1,6 @@
 -- Codes whose lines have no fault by themselves, keep the limits and have names that differ are clean.
-use Rattle.std.proofs.Common.{◌≡◌, ℕ, zero, suc, ◌+◌, ◌<◌, ◌≤◌, Bool, true, false, not, ◌&&◌, ◌||◌, nat_lt, List, [], ◌∷◌, ◌++◌, length, map, flat_map, refl, sym, ap, ap₂, subst, ◌∙◌, true≢false, append_assoc, arith, inl, inr, ◌⊎◌, ⊎_elim}
+use Rattle.std.proofs.Common.{◌≡◌, ℕ, zero, suc, ◌+◌, ◌<◌, ◌≤◌, Bool, true, false, not, ◌&&◌, ◌||◌, nat_lt, List, [], ◌∷◌, ◌++◌, length, map}
+use Rattle.std.proofs.Common.{flat_map, refl, sym, ap, ap₂, subst, ◌∙◌, true≢false, append_assoc, arith, inl, inr, ◌⊎◌, ⊎_elim}
 use Rattle.std.proofs.lemmas.Bool.{le-ltb}
 use Rattle.std.proofs.lemmas.List.{length-append}
 use Rattle.std.proofs.lemmas.List.Concat.{flat_map-cons, flat_map-append}
@@ -12,7 +13,8 @@ use Rattle.tam_read.specs.declared.form.Verb.TheVariants as verb
 use Rattle.tam_read.specs.declared.block.Opening.{Opening}
 use Rattle.tam_read.specs.declared.block.Opening.TheVariants.{ByCode, ByCond, ByElse}
 use Rattle.tam_read.specs.Sentences.{Sentence, vertices_of, is_code, is_cond, names_made, code_begun}
-use Rattle.tam_read.specs.Faults.{Open, opened as just_opened, open_behind, open_after, until_code, vertices, has_bad_name, has_bad_number, is_out_of_place, is_named_again, some_shared, faults_of_sentence}
+use Rattle.tam_read.specs.Faults.{Open, opened as just_opened, open_behind, open_after, until_code, vertices, has_bad_name}
+use Rattle.tam_read.specs.Faults.{has_bad_number, is_out_of_place, is_named_again, some_shared, faults_of_sentence}
 use Rattle.tam_read.proofs.Nested.{Tree, Done, Plain, Branch, flat, Fits, is_plain_verb}
 use Rattle.tam_read.proofs.Codes.{CodeLines, lines_of_code, lines_of_codes}
 use Rattle.tam_read.proofs.Clean.{AreClean, Apart, DifferBehind, NoCode}
@@ -20,7 +22,8 @@ use Rattle.tam_read.proofs.Contexts.{put_before, until-here}
 use Rattle.tam_read.proofs.TreeBuilt.{flat-branch}
 use Rattle.tam_read.proofs.ReadCodes.{body_lines, body-no-code}
 use Rattle.tam_read.proofs.Bounded.{Bounded, put-both}
-use Rattle.tam_read.proofs.CleanBack.{apart-unshared, sentence-clean, first-false, both-false, line-clean, plain-code, plain-place, plain-open, owned, tree-opens}
+use Rattle.tam_read.proofs.CleanBack.{apart-unshared, sentence-clean, first-false, both-false, line-clean}
+use Rattle.tam_read.proofs.CleanBack.{plain-code, plain-place, plain-open, owned, tree-opens}
 
 -- a line by itself has no fault
 abbrev pub AreRight : List Sentence → Type 0
@@ -29,15 +32,18 @@ AreRight ss = (s : Sentence) → In s ss → (has_bad_name s ≡ false) × (has_
 -- each line's name is new in its code, and leaves it small
 abbrev pub AreNew : List Sentence → List Sentence → Type 0
 AreNew before [] = Unit {0}
-AreNew before (s ∷ ss) = Apart (names_made s) (flat_map names_made (until_code before)) × (vertices_of s.verb + vertices (until_code before) ≤ 1024) × AreNew (s ∷ before) ss
+AreNew before (s ∷ ss) =
+    Apart (names_made s) (flat_map names_made (until_code before)) × (vertices_of s.verb + vertices (until_code before) ≤ 1024) × AreNew (s ∷ before) ss
 
 -- lines of a code with names that differ, and few vertices
-pub lines-new : (before ss : List Sentence) → NoCode ss → DifferBehind ss → Apart (flat_map names_made ss) (flat_map names_made (until_code before)) → vertices ss + vertices (until_code before) ≤ 1024 → AreNew before ss
+pub lines-new : (before ss : List Sentence) → NoCode ss → DifferBehind ss → Apart (flat_map names_made ss) (flat_map names_made (until_code before))
+    → vertices ss + vertices (until_code before) ≤ 1024 → AreNew before ss
 lines-new before [] none d apart few = tt
 lines-new before (s ∷ ss) none d apart few =
     let next : until_code (s ∷ before) ≡ s ∷ until_code before = rw (until_code, none.0) refl in
     let sum : vertices (until_code (s ∷ before)) ≡ vertices_of s.verb + vertices (until_code before) = ap vertices next in
-    let names : flat_map names_made (until_code (s ∷ before)) ≡ names_made s ++ flat_map names_made (until_code before) = ap (flat_map names_made) next ∙ flat_map-cons names_made s (until_code before) in
+    let names : flat_map names_made (until_code (s ∷ before)) ≡ names_made s ++ flat_map names_made (until_code before) =
+    ap (flat_map names_made) next ∙ flat_map-cons names_made s (until_code before) in
     let all : flat_map names_made (s ∷ ss) ≡ names_made s ++ flat_map names_made ss = flat_map-cons names_made s ss in (
       λ n p q. apart n (subst (λ ns. In n ns) (sym all) (left-in n (names_made s) (flat_map names_made ss) p)) q,
       omega (arith, few),
@@ -63,7 +69,8 @@ new-front b (x ∷ xs) ys h = (h.0, h.1, new-front (x ∷ b) xs ys h.2)
 cond-place : (o : Opening) (os : List Opening) → is_out_of_place verb.Cond (o ∷ os) ≡ false
 cond-place o os = refl
 
-pub tree-clean : (t : Tree) → Fits t → (before : List Sentence) (o : Open) (os : List Open) (rest : List Sentence) → open_after before ≡ o ∷ os → Bounded t (length os) (vertices o.own) → AreNew before (flat t)
+pub tree-clean : (t : Tree) → Fits t → (before : List Sentence) (o : Open) (os : List Open) (rest : List Sentence) → open_after before ≡ o ∷ os
+    → Bounded t (length os) (vertices o.own) → AreNew before (flat t)
     → AreRight (flat t) → AreClean (put_before before (flat t)) rest → AreClean before (flat t ++ rest)
 tree-clean Done f before o os rest e bound new right clean = clean
 tree-clean (Plain s r) f before o os rest e bound new right clean =
@@ -87,7 +94,8 @@ tree-clean (Branch s y t n e r) f before o os rest is bound new right clean =
     let b2 = put_before b1 (flat y) in
     let b3 = t ∷ b2 in
     let last_y : Open = record { opening = ByCond; own = iy.own } in
-    let open3 : open_after b3 ≡ just_opened ByElse ∷ owned s o ∷ os = ap (open_behind t t.verb) iy.opens ∙ ap (λ v. open_behind t v (last_y ∷ owned s o ∷ os)) f.2 in
+    let open3 : open_after b3 ≡ just_opened ByElse ∷ owned s o ∷ os =
+    ap (open_behind t t.verb) iy.opens ∙ ap (λ v. open_behind t v (last_y ∷ owned s o ∷ os)) f.2 in
     let jn = tree-opens n f.3 b3 (just_opened ByElse) (owned s o ∷ os) open3 in
     let b4 = put_before b3 (flat n) in
     let b5 = e ∷ b4 in
@@ -97,27 +105,33 @@ tree-clean (Branch s y t n e r) f before o os rest is bound new right clean =
     let none_t : vertices_of t.verb ≡ 0 = ap vertices_of f.2 in
     let none_e : vertices_of e.verb ≡ 0 = ap vertices_of f.4 in
     let own_next : vertices (owned s o).own ≡ 1 + vertices o.own = ap (λ v. v + vertices o.own) one in
-    let whole : put_before before (flat (Branch s y t n e r)) ≡ put_before b5 (flat r) = put-both b1 (flat y) (t ∷ (flat n ++ (e ∷ flat r))) ∙ put-both b3 (flat n) (e ∷ flat r) in
+    let whole : put_before before (flat (Branch s y t n e r)) ≡ put_before b5 (flat r) =
+    put-both b1 (flat y) (t ∷ (flat n ++ (e ∷ flat r))) ∙ put-both b3 (flat n) (e ∷ flat r) in
     let new_y = new-front b1 (flat y) (t ∷ (flat n ++ (e ∷ flat r))) new1.2 in
     let new_t = new-behind b1 (flat y) (t ∷ (flat n ++ (e ∷ flat r))) new1.2 in
     let new_n = new-front b3 (flat n) (e ∷ flat r) new_t.2 in
     let new_e = new-behind b3 (flat n) (e ∷ flat r) new_t.2 in
-    let clean_r = tree-clean r f.5 b5 (owned s o) os rest open5 (subst (λ v. Bounded r (length os) v) (sym own_next) bound.4) new_e.2 (λ z i. right z (in_e z (inr i))) (subst (λ b. AreClean b rest) whole clean) in
+    let clean_r = tree-clean r f.5 b5 (owned s o) os rest open5 (subst (λ v. Bounded r (length os) v) (sym own_next) bound.4) new_e.2
+    (λ z i. right z (in_e z (inr i))) (subst (λ b. AreClean b rest) whole clean) in
     let right_e = right e (in_e e (inl refl)) in
     let clean_e : AreClean b4 (e ∷ (flat r ++ rest)) = (
-      line-clean b4 last_n (owned s o ∷ os) e jn.opens right_e.0 right_e.1 (ap is_code f.4) (ap (λ v. is_out_of_place v (ByElse ∷ map (λ p. p.opening) (owned s o ∷ os))) f.4) new_e.0 new_e.1 (inl none_e) (inl (ap is_cond f.4)),
+      line-clean b4 last_n (owned s o ∷ os) e jn.opens right_e.0 right_e.1 (ap is_code f.4)
+          (ap (λ v. is_out_of_place v (ByElse ∷ map (λ p. p.opening) (owned s o ∷ os))) f.4) new_e.0 new_e.1 (inl none_e) (inl (ap is_cond f.4)),
       clean_r,
     ) in
     let clean_n = tree-clean n f.3 b3 (just_opened ByElse) (owned s o ∷ os) (e ∷ (flat r ++ rest)) open3 bound.3 new_n (λ z i. right z (in_n z i)) clean_e in
     let right_t = right t (in_rest t (inl refl)) in
     let clean_t : AreClean b2 (t ∷ (flat n ++ (e ∷ (flat r ++ rest)))) = (
-      line-clean b2 last_y (owned s o ∷ os) t iy.opens right_t.0 right_t.1 (ap is_code f.2) (ap (λ v. is_out_of_place v (ByCond ∷ map (λ p. p.opening) (owned s o ∷ os))) f.2) new_t.0 new_t.1 (inl none_t) (inl (ap is_cond f.2)),
+      line-clean b2 last_y (owned s o ∷ os) t iy.opens right_t.0 right_t.1 (ap is_code f.2)
+          (ap (λ v. is_out_of_place v (ByCond ∷ map (λ p. p.opening) (owned s o ∷ os))) f.2) new_t.0 new_t.1 (inl none_t) (inl (ap is_cond f.2)),
       clean_n,
     ) in
-    let clean_y = tree-clean y f.1 b1 (just_opened ByCond) (owned s o ∷ os) (t ∷ (flat n ++ (e ∷ (flat r ++ rest)))) open1 bound.2 new_y (λ z i. right z (in_y z i)) clean_t in
+    let clean_y = tree-clean y f.1 b1 (just_opened ByCond) (owned s o ∷ os) (t ∷ (flat n ++ (e ∷ (flat r ++ rest)))) open1 bound.2 new_y
+    (λ z i. right z (in_y z i)) clean_t in
     let here = right s (inl refl) in
     subst (λ ss. AreClean before ss) (sym parts) (
-      line-clean before o os s is here.0 here.1 (ap is_code f.0) (ap (λ v. is_out_of_place v (o.opening ∷ map (λ p. p.opening) os)) f.0) new1.0 new1.1 (inr (omega (arith, bound.0, one))) (inr bound.1),
+      line-clean before o os s is here.0 here.1 (ap is_code f.0) (ap (λ v. is_out_of_place v (o.opening ∷ map (λ p. p.opening) os)) f.0) new1.0 new1.1
+          (inr (omega (arith, bound.0, one))) (inr bound.1),
       clean_y,
     )
 
@@ -142,8 +156,10 @@ head-clean : (before : List Sentence) (d : CodeLines) → open_after before ≡ 
     → length (flat_map code_begun before) ≤ 255 → faults_of_sentence before d.head ≡ []
 head-clean before d e k apart few =
     let right = k.right d.head (inl refl) in
-    let place : is_out_of_place d.head.verb (map (λ o. o.opening) (open_after before)) ≡ false = ap₂ (λ v os. is_out_of_place v (map (λ o. o.opening) os)) d.begins e in
-    let again : is_named_again before d.head ≡ false = rw (is_named_again, apart-unshared (code_begun d.head) (flat_map code_begun before) apart, k.nameless) refl in
+    let place : is_out_of_place d.head.verb (map (λ o. o.opening) (open_after before)) ≡ false =
+    ap₂ (λ v os. is_out_of_place v (map (λ o. o.opening) os)) d.begins e in
+    let again : is_named_again before d.head ≡ false =
+    rw (is_named_again, apart-unshared (code_begun d.head) (flat_map code_begun before) apart, k.nameless) refl in
     let none : nat_lt 0 (vertices_of d.head.verb) ≡ false = ap (λ v. nat_lt 0 (vertices_of v)) d.begins in
     sentence-clean before d.head right.0 right.1 place again
     (both-false (is_code d.head.verb) (nat_lt 255 (length (flat_map code_begun before))) (le-ltb 255 (length (flat_map code_begun before)) few))
@@ -151,7 +167,8 @@ head-clean before d e k apart few =
     (first-false (is_cond d.head.verb) _ (ap is_cond d.begins))
 
 -- codes one behind the other
-pub codes-clean-back : (before : List Sentence) (ds : List CodeLines) → open_after before ≡ [] → ((d : CodeLines) → In d ds → IsCleanable d) → AreNewCodes before ds
+pub codes-clean-back : (before : List Sentence) (ds : List CodeLines) → open_after before ≡ []
+    → ((d : CodeLines) → In d ds → IsCleanable d) → AreNewCodes before ds
     → AreClean before (lines_of_codes ds) × (open_after (put_before before (lines_of_codes ds)) ≡ [])
 codes-clean-back before [] e k new = (tt, e)
 codes-clean-back before (d ∷ ds) e k new =
@@ -173,13 +190,16 @@ codes-clean-back before (d ∷ ds) e k new =
     let right_close = here.right d.close (inr (right-in d.close (flat d.body) (d.close ∷ []) (inl refl))) in
     let no_vertex : vertices_of d.close.verb ≡ 0 = ap vertices_of d.closes in
     let clean_close : AreClean b2 (d.close ∷ lines_of_codes ds) = (
-      line-clean b2 last [] d.close i.opens right_close.0 right_close.1 (ap is_code d.closes) (ap (λ v. is_out_of_place v (ByCode ∷ [])) d.closes) fresh_close.0 fresh_close.1
+      line-clean b2 last [] d.close i.opens right_close.0 right_close.1 (ap is_code d.closes)
+          (ap (λ v. is_out_of_place v (ByCode ∷ [])) d.closes) fresh_close.0 fresh_close.1
           (inl no_vertex) (inl (ap is_cond d.closes)),
       later.0,
     ) in
-    let body = tree-clean d.body d.fits b1 (just_opened ByCode) [] (d.close ∷ lines_of_codes ds) open1 here.bounded (new-front b1 (flat d.body) (d.close ∷ []) fresh)
+    let body = tree-clean d.body d.fits b1 (just_opened ByCode) [] (d.close ∷ lines_of_codes ds) open1 here.bounded
+    (new-front b1 (flat d.body) (d.close ∷ []) fresh)
     (λ z j. here.right z (inr (left-in z (flat d.body) (d.close ∷ []) j))) clean_close in
-    let parts : body_lines d ++ lines_of_codes ds ≡ flat d.body ++ (d.close ∷ lines_of_codes ds) = append_assoc (flat d.body) (d.close ∷ []) (lines_of_codes ds) in
+    let parts : body_lines d ++ lines_of_codes ds ≡ flat d.body ++ (d.close ∷ lines_of_codes ds) =
+    append_assoc (flat d.body) (d.close ∷ []) (lines_of_codes ds) in
     let split : put_before before (lines_of_codes (d ∷ ds)) ≡ put_before b3 (lines_of_codes ds) =
     put-both before (lines_of_code d) (lines_of_codes ds) ∙ ap (λ b. put_before b (lines_of_codes ds)) whole in
     ((head-clean before d e here new.0 new.1, subst (λ ss. AreClean b1 ss) (sym parts) body), ap open_after split ∙ later.1)

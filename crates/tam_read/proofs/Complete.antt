@@ -1,5 +1,6 @@
 -- A text that reads as a graph has no fault, and what is read of it is that graph.
-use Rattle.std.proofs.Common.{◌≡◌, ℕ, zero, suc, ◌+◌, ◌<◌, ◌≤◌, Bool, true, false, List, [], ◌∷◌, ◌++◌, length, map, flat_map, Option, Some, refl, sym, ap, ap₂, subst, ◌∙◌, arith, inl, inr, ⊎_elim}
+use Rattle.std.proofs.Common.{◌≡◌, ℕ, zero, suc, ◌+◌, ◌<◌, ◌≤◌, Bool, true, false, List, [], ◌∷◌, ◌++◌, length, map}
+use Rattle.std.proofs.Common.{flat_map, Option, Some, refl, sym, ap, ap₂, subst, ◌∙◌, arith, inl, inr, ⊎_elim}
 use Rattle.std.specs.Prelude.{codes as bytes_of, slice_get}
 use Rattle.tam_word.specs.Lists.{all_of}
 use Rattle.tam_word.proofs.Members.{In, left-in, right-in, in-append, in-get, get-in, all-in, in-map, map-in}
@@ -22,7 +23,8 @@ use Rattle.tam_read.proofs.Clean.{AreClean}
 use Rattle.tam_read.proofs.Contexts.{put_before}
 use Rattle.tam_read.proofs.CodeByCode.{sayings-said_from, faults-by-codes}
 use Rattle.tam_read.proofs.Looked.{code_list, found-codes}
-use Rattle.tam_read.proofs.ReadCodes.{body_lines, known_of, known_among, code_of_lines, codes_read, plain_pieces, unnumbered, pieces-unnumbered, pieces-of-codes, codes-said, codes-of-pieces, code_said}
+use Rattle.tam_read.proofs.ReadCodes.{body_lines, known_of, known_among, code_of_lines, codes_read, plain_pieces, unnumbered}
+use Rattle.tam_read.proofs.ReadCodes.{pieces-unnumbered, pieces-of-codes, codes-said, codes-of-pieces, code_said}
 use Rattle.tam_read.proofs.Worded.{words_said}
 use Rattle.tam_read.proofs.CodesSpelled.{entries_of}
 use Rattle.tam_read.proofs.TokensBack.{AreNamed}
@@ -40,7 +42,8 @@ head-is w e = ap is_head e
 -- a line of codes is one of a code
 of-codes : (ds : List CodeLines) (s : Sentence) → In s (lines_of_codes ds) → (d : CodeLines) × In d ds × In s (lines_of_code d)
 of-codes [] s i = absurd i
-of-codes (d ∷ ds) s i = ⊎_elim (λ h. (d, inl refl, h)) (λ h. let r = of-codes ds s h in (r.0, inr r.1, r.2)) (in-append s (lines_of_code d) (lines_of_codes ds) i)
+of-codes (d ∷ ds) s i =
+    ⊎_elim (λ h. (d, inl refl, h)) (λ h. let r = of-codes ds s h in (r.0, inr r.1, r.2)) (in-append s (lines_of_code d) (lines_of_codes ds) i)
 
 -- what a code's name names
 abbrev a_code : ℕ → Option Made
@@ -88,7 +91,8 @@ module _ (bytes : List ℕ) (g : Graph) (r : Reads bytes g) where
         at : (d : ℕ) → (c : Code) × (slice_get g.codes d ≡ Some c) → found (code_of g d).name (entries_of ds) ≡ Some (record { role = role.Callee; number = d })
         at d c =
             let is : code_of g d ≡ c.0 = ap or_code c.1 in
-            ap (λ z. found z.name (entries_of ds)) is ∙ found-codes (c.0).name 0 (lines_of_codes ds) [] ∙ ap (found (c.0).name) (names-entered g 0 g.codes ds said)
+            ap (λ z. found z.name (entries_of ds)) is ∙ found-codes (c.0).name 0 (lines_of_codes ds) []
+            ∙ ap (found (c.0).name) (names-entered g 0 g.codes ds said)
             ∙ name-found 0 g.codes r.text.codes_differ d c.0 c.1 ∙ ap a_code (omega arith)
 
     -- they are clean
@@ -111,13 +115,15 @@ module _ (bytes : List ℕ) (g : Graph) (r : Reads bytes g) where
         (body-faultless g (length g.codes) few k.0 (named k.0 k.1) (of-text k.0 k.1) d k.2 (entries_of ds) known s j).known
 
     -- each code is that of its lines
-    codes-same : (cs : List Code) (some : List CodeLines) → ((c : Code) → In c cs → In c g.codes) → AreSaid g cs some → cs ≡ map (code_of_lines (entries_of ds)) some
+    codes-same : (cs : List Code) (some : List CodeLines) → ((c : Code) → In c cs → In c g.codes) → AreSaid g cs some
+        → cs ≡ map (code_of_lines (entries_of ds)) some
     codes-same [] [] h s = refl
     codes-same [] (d ∷ some) h s = absurd s
     codes-same (c ∷ cs) [] h s = absurd s
     codes-same (c ∷ cs) (d ∷ some) h s =
         let i = h c (inl refl) in
-        ap₂ (λ a rest. a ∷ rest) (code-is g (length g.codes) few c (named c i) (of-text c i) d s.0 (entries_of ds) known) (codes-same cs some (λ z j. h z (inr j)) s.1)
+        ap₂ (λ a rest. a ∷ rest) (code-is g (length g.codes) few c (named c i) (of-text c i) d s.0 (entries_of ds) known)
+        (codes-same cs some (λ z j. h z (inr j)) s.1)
 
     module _ (w : List (List ℕ)) (words : token_lines bytes ≡ w ∷ map words_said (lines_of_codes ds)) (is : is_head w ≡ true) where
       passed : IsPassed (last_line bytes) 1 [] (lines_of bytes) (lines_of_codes ds)
@@ -134,9 +140,11 @@ module _ (bytes : List ℕ) (g : Graph) (r : Reads bytes g) where
 
       -- the text has no fault
       faultless : faults bytes ≡ []
-      faultless = faults-by-codes bytes passed.none ∙ pieces-none (codes_in (said_from 1 (lines_of bytes))) (pieces (said_from 1 (lines_of bytes))) (λ q i s j. piece q i s j)
+      faultless = faults-by-codes bytes passed.none
+          ∙ pieces-none (codes_in (said_from 1 (lines_of bytes))) (pieces (said_from 1 (lines_of bytes))) (λ q i s j. piece q i s j)
         where
-          piece : (q : Piece) → In q (pieces (said_from 1 (lines_of bytes))) → (s : Sentence) → In s (sayings q.body) → faults_known (known_in (codes_in (said_from 1 (lines_of bytes))) q.body) s ≡ []
+          piece : (q : Piece) → In q (pieces (said_from 1 (lines_of bytes))) → (s : Sentence) → In s (sayings q.body)
+              → faults_known (known_in (codes_in (said_from 1 (lines_of bytes))) q.body) s ≡ []
           piece q i s j =
               let m = subst (λ ps. In (unnumbered q) ps) pieces-are (map-in unnumbered q (pieces (said_from 1 (lines_of bytes))) i) in
               let d = in-map (λ d. (d.head, body_lines d)) (unnumbered q) ds m in
@@ -148,7 +156,8 @@ module _ (bytes : List ℕ) (g : Graph) (r : Reads bytes g) where
       graph-is =
           let ns = said_from 1 (lines_of bytes) in
           let codes : codes_read bytes ≡ map (code_of_lines (entries_of ds)) ds =
-          codes-of-pieces (codes_in ns) (pieces ns) ∙ ap (map (code_said (codes_in ns))) pieces-are ∙ codes-said (codes_in ns) ds ∙ ap (λ es. map (code_of_lines es) ds) entries-are in
+          codes-of-pieces (codes_in ns) (pieces ns) ∙ ap (map (code_said (codes_in ns))) pieces-are ∙ codes-said (codes_in ns) ds
+          ∙ ap (λ es. map (code_of_lines es) ds) entries-are in
           let same : g.codes ≡ codes_read bytes = codes-same g.codes ds (λ c i. i) said ∙ sym codes in
           let make : List Code → ℕ → Graph = λ cs m. record { codes = cs; main = m } in
           ap (make g.codes) r.text.main ∙ ap graph_of same

@@ -126,7 +126,8 @@ verb-is-node (kind.Enter k) = refl
 verb-is-node (kind.Leave k a) = refl
 
 -- the tokens of its line
-pub tokens-of-kind : (g : Graph) (c : Code) (k : Kind) → tokens g c k ≡ Bytes (verb_text (verb_of k)) ∷ three_tokens g c (roles_of (verb_of k)) (first_of_kind k) (second_of_kind k) (third_of_kind k)
+pub tokens-of-kind : (g : Graph) (c : Code) (k : Kind)
+    → tokens g c k ≡ Bytes (verb_text (verb_of k)) ∷ three_tokens g c (roles_of (verb_of k)) (first_of_kind k) (second_of_kind k) (third_of_kind k)
 tokens-of-kind g c (kind.Param k) = refl
 tokens-of-kind g c (kind.Const w) = refl
 tokens-of-kind g c (kind.Op o a b) = refl
@@ -192,7 +193,8 @@ rest-passes f a bs e = go (f a) refl
     go false p = absurd (true≢false (sym (rw (all_of, p) at e)))
 
 -- where its line is right, so are its numbers
-pub numbers-right : (codes : ℕ) (c : Code) (k : Kind) → is_line codes c k ≡ true → AreRight codes c (roles_of (verb_of k)) (first_of_kind k) (second_of_kind k) (third_of_kind k)
+pub numbers-right : (codes : ℕ) (c : Code) (k : Kind) → is_line codes c k ≡ true
+    → AreRight codes c (roles_of (verb_of k)) (first_of_kind k) (second_of_kind k) (third_of_kind k)
 numbers-right codes c (kind.Param k) h = h
 numbers-right codes c (kind.Const w) h = h
 numbers-right codes c (kind.Op o a b) h = both-pass (is_operand c) a b h
@@ -254,5 +256,6 @@ called-itself verb.Else = refl
 called-itself verb.End = refl
 
 -- so a verb's form says the sentence
-pub said-again : (name : List (List ℕ)) (v : Verb) (rest : List (List ℕ)) → has_form name rest v ≡ true → said_by name (verb_text v) rest ≡ record { name = name; verb = v; rest = rest } ∷ []
+pub said-again : (name : List (List ℕ)) (v : Verb) (rest : List (List ℕ)) → has_form name rest v ≡ true
+    → said_by name (verb_text v) rest ≡ record { name = name; verb = v; rest = rest } ∷ []
 said-again name v rest f = rw (said_by, called-itself v, f) refl

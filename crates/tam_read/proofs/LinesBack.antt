@@ -1,5 +1,6 @@
 -- A line that spells the line of a node says a sentence of that node.
-use Rattle.std.proofs.Common.{◌≡◌, ℕ, zero, suc, ◌+◌, ◌<◌, ◌≤◌, Bool, true, false, not, ◌&&◌, ◌==◌, nat_lt, List, [], ◌∷◌, ◌++◌, length, map, Option, Some, None, refl, sym, ap, ap₂, subst, ◌∙◌, true≢false, arith, inl, inr}
+use Rattle.std.proofs.Common.{◌≡◌, ℕ, zero, suc, ◌+◌, ◌<◌, ◌≤◌, Bool, true, false, not, ◌&&◌, ◌==◌, nat_lt, List, [], ◌∷◌, ◌++◌}
+use Rattle.std.proofs.Common.{length, map, Option, Some, None, refl, sym, ap, ap₂, subst, ◌∙◌, true≢false, arith, inl, inr}
 use Rattle.std.specs.Prelude.{codes as bytes_of, slice_get, is_some, is_none}
 use Rattle.tam_word.specs.Lists.{all_of, same_bytes}
 use Rattle.tam_word.specs.Numbers.{word_of, place_of}
@@ -15,9 +16,11 @@ use Rattle.tam_text.proofs.SameBytes.{same_equal}
 use Rattle.tam_read.specs.declared.form.Verb.{Verb}
 use Rattle.tam_read.specs.declared.form.Role.{Role}
 use Rattle.tam_read.specs.declared.form.Role.TheVariants as role
-use Rattle.tam_read.specs.Sentences.{Sentence, verb_text, makes, roles_of, has_form, sentence_of, said_by, said_named, names_made, name_made, each_token, is_name_for, is_number_for}
+use Rattle.tam_read.specs.Sentences.{Sentence, verb_text, makes, roles_of, has_form, sentence_of, said_by, said_named}
+use Rattle.tam_read.specs.Sentences.{names_made, name_made, each_token, is_name_for, is_number_for}
 use Rattle.tam_read.specs.Building.{depth_made}
-use Rattle.tam_read.proofs.KindsAgain.{verb_of, first_of_kind, second_of_kind, third_of_kind, verb-is-node, tokens-of-kind, named-by-verb, numbers-right, said-again}
+use Rattle.tam_read.proofs.KindsAgain.{verb_of, first_of_kind, second_of_kind, third_of_kind, verb-is-node}
+use Rattle.tam_read.proofs.KindsAgain.{tokens-of-kind, named-by-verb, numbers-right, said-again}
 use Rattle.tam_read.proofs.Spelling.{role_token, three_tokens, is_no_code, roles-no-code, few-roles, line_by, node-line-at}
 use Rattle.tam_read.proofs.Worded.{with_name, words_said}
 use Rattle.tam_read.proofs.LinesRight.{named_for, AreRight}
@@ -37,7 +40,8 @@ pub record Says (g : Graph) (c : Code) (x : ℕ) (s : Sentence) : Type 0 where
   pub names : names_made s ≡ names_of node.name
   pub good_names : all_of is_name (names_made s) ≡ true
   pub depth : depth_made s.verb s.name ≡ node.depth
-  pub tokens : same_line s.rest (three_tokens g c (roles_of (verb_of node.kind)) (first_of_kind node.kind) (second_of_kind node.kind) (third_of_kind node.kind)) ≡ true
+  pub tokens : same_line s.rest (three_tokens g c (roles_of (verb_of node.kind)) (first_of_kind node.kind) (second_of_kind node.kind) (third_of_kind node.kind))
+      ≡ true
   pub named : each_token is_name_for (roles_of s.verb) s.rest ≡ true
   pub numbered : each_token is_number_for (roles_of s.verb) s.rest ≡ true
   pub parse : sentence_of (words_said s) ≡ s ∷ []
@@ -49,7 +53,8 @@ pub record AreTokens (rs : List Role) (ts : List (List ℕ)) : Type 0 where
   pub numbered : each_token is_number_for rs ts ≡ true
 
 -- a token before others
-token-first : (r : Role) (rs : List Role) (t : List ℕ) (ts : List (List ℕ)) → is_name_for r t ≡ true → is_number_for r t ≡ true → AreTokens rs ts → AreTokens (r ∷ rs) (t ∷ ts)
+token-first : (r : Role) (rs : List Role) (t : List ℕ) (ts : List (List ℕ)) → is_name_for r t ≡ true → is_number_for r t ≡ true
+    → AreTokens rs ts → AreTokens (r ∷ rs) (t ∷ ts)
 token-first r rs t ts n k a = record { many = ap suc a.many; named = rw (each_token, n) a.named; numbered = rw (each_token, k) a.numbered }
 
 -- no tokens
@@ -66,7 +71,8 @@ first-role r rs h = go (is_no_code r) refl
 
 module _ (g : Graph) (codes : ℕ) (c : Code) (are : AreNamed g codes c) where
   -- tokens that spell those of numbers
-  pub tokens-are : (rs : List Role) (x y z : ℕ) (ts : List (List ℕ)) → length rs ≤ 3 → all_of is_no_code rs ≡ true → same_line ts (three_tokens g c rs x y z) ≡ true → AreRight codes c rs x y z → AreTokens rs ts
+  pub tokens-are : (rs : List Role) (x y z : ℕ) (ts : List (List ℕ)) → length rs ≤ 3 → all_of is_no_code rs ≡ true
+      → same_line ts (three_tokens g c rs x y z) ≡ true → AreRight codes c rs x y z → AreTokens rs ts
   tokens-are [] x y z [] few n h k = no-tokens
   tokens-are [] x y z (t ∷ ts) few n h k = absurd (true≢false (sym h))
   tokens-are (r ∷ []) x y z [] few n h k = absurd (true≢false (sym h))
@@ -101,7 +107,8 @@ module _ (g : Graph) (codes : ℕ) (c : Code) (are : AreNamed g codes c) where
       (token-first s (p ∷ []) u (v ∷ []) (token-named g codes c are s u y n1.0 b.0 k.1) (token-numbered g codes c are s u y b.0 k.1)
       (token-first p [] v [] (token-named g codes c are p v z n2.0 d.0 k.2) (token-numbered g codes c are p v z d.0 k.2) no-tokens))
   tokens-are (r ∷ s ∷ p ∷ []) x y z (t ∷ u ∷ v ∷ w ∷ ts) few n h k =
-      absurd (true≢false (sym (both-true (is_token v (role_token g c p z)) false (both-true (is_token u (role_token g c s y)) _ (both-true (is_token t (role_token g c r x)) _ h).1).1).1))
+      absurd (true≢false (sym (both-true (is_token v (role_token g c p z)) false
+      (both-true (is_token u (role_token g c s y)) _ (both-true (is_token t (role_token g c r x)) _ h).1).1).1))
   tokens-are (r ∷ s ∷ p ∷ o ∷ rs) x y z ts few n h k = absurd (omega arith)
 
 -- a token behind a verb is no `=`
@@ -124,7 +131,8 @@ no-sign r t n k = go (same_bytes t (bytes_of "=")) refl
 -- ---- sentences from their words
 
 -- without a name
-pub parse-plain : (v : Verb) (rest : List (List ℕ)) → has_form [] rest v ≡ true → AreTokens (roles_of v) rest → sentence_of (verb_text v ∷ rest) ≡ record { name = []; verb = v; rest = rest } ∷ []
+pub parse-plain : (v : Verb) (rest : List (List ℕ)) → has_form [] rest v ≡ true → AreTokens (roles_of v) rest
+    → sentence_of (verb_text v ∷ rest) ≡ record { name = []; verb = v; rest = rest } ∷ []
 parse-plain v [] f a = said-again [] v [] f
 parse-plain v (t ∷ ts) f a = at (roles_of v) a
   where
@@ -140,7 +148,8 @@ parse-plain v (t ∷ ts) f a = at (roles_of v) a
             go false p = absurd (true≢false (sym (rw (each_token, p) at h)))
 
 -- with one
-pub parse-named : (n : List ℕ) (v : Verb) (rest : List (List ℕ)) → has_form (n ∷ []) rest v ≡ true → sentence_of (n ∷ bytes_of "=" ∷ verb_text v ∷ rest) ≡ record { name = n ∷ []; verb = v; rest = rest } ∷ []
+pub parse-named : (n : List ℕ) (v : Verb) (rest : List (List ℕ)) → has_form (n ∷ []) rest v ≡ true
+    → sentence_of (n ∷ bytes_of "=" ∷ verb_text v ∷ rest) ≡ record { name = n ∷ []; verb = v; rest = rest } ∷ []
 parse-named n v rest f = said-again (n ∷ []) v rest f
 
 -- ---- a line from its node
@@ -167,14 +176,18 @@ form-plain v rest e l = rw (has_form, e) (eq-number (length rest) (length (roles
 form-named : (v : Verb) (r : Role) (n : List ℕ) (rest : List (List ℕ)) → makes v ≡ Some r → length rest ≡ length (roles_of v) → has_form (n ∷ []) rest v ≡ true
 form-named v r n rest e l = rw (has_form, e) (eq-number (length rest) (length (roles_of v)) l)
 
-module _ (g : Graph) (codes : ℕ) (c : Code) (are : AreNamed g codes c) (x : ℕ) (n : Node) (there : slice_get c.nodes x ≡ Some n) (right : IsRightNode codes c n) where
-  behind : (ts : List (List ℕ)) → same_line ts (three_tokens g c (roles_of (verb_of n.kind)) (first_of_kind n.kind) (second_of_kind n.kind) (third_of_kind n.kind)) ≡ true → AreTokens (roles_of (verb_of n.kind)) ts
+module _ (g : Graph) (codes : ℕ) (c : Code) (are : AreNamed g codes c) (x : ℕ) (n : Node) (there : slice_get c.nodes x ≡ Some n)
+    (right : IsRightNode codes c n) where
+  behind : (ts : List (List ℕ))
+      → same_line ts (three_tokens g c (roles_of (verb_of n.kind)) (first_of_kind n.kind) (second_of_kind n.kind) (third_of_kind n.kind)) ≡ true
+      → AreTokens (roles_of (verb_of n.kind)) ts
   behind ts h =
       tokens-are g codes c are (roles_of (verb_of n.kind)) (first_of_kind n.kind) (second_of_kind n.kind) (third_of_kind n.kind) ts (few-roles (verb_of n.kind))
       (roles-no-code (verb_of n.kind) (verb-is-node n.kind)) h (numbers-right codes c n.kind right.line)
 
   plain-line : (w : List (List ℕ)) → makes (verb_of n.kind) ≡ None
-      → same_line w (Bytes (verb_text (verb_of n.kind)) ∷ three_tokens g c (roles_of (verb_of n.kind)) (first_of_kind n.kind) (second_of_kind n.kind) (third_of_kind n.kind)) ≡ true → IsSentence g c x w
+      → same_line w (Bytes (verb_text (verb_of n.kind))
+      ∷ three_tokens g c (roles_of (verb_of n.kind)) (first_of_kind n.kind) (second_of_kind n.kind) (third_of_kind n.kind)) ≡ true → IsSentence g c x w
   plain-line [] e h = absurd (true≢false (sym h))
   plain-line (v ∷ ts) e h =
       let p = both-true (same_bytes v (verb_text (verb_of n.kind))) _ h in
@@ -210,7 +223,8 @@ module _ (g : Graph) (codes : ℕ) (c : Code) (are : AreNamed g codes c) (x : �
       ∷ three_tokens g c (roles_of (verb_of n.kind)) (first_of_kind n.kind) (second_of_kind n.kind) (third_of_kind n.kind)) ≡ true → IsSentence g c x w
   named-line [] r e h = absurd (true≢false (sym h))
   named-line (m ∷ []) r e h = absurd (true≢false (sym (both-true (same_bytes m (or_bytes n.name ++ suffix n.depth)) false h).1))
-  named-line (m ∷ q ∷ []) r e h = absurd (true≢false (sym (both-true (same_bytes q (bytes_of "=")) false (both-true (same_bytes m (or_bytes n.name ++ suffix n.depth)) _ h).1).1))
+  named-line (m ∷ q ∷ []) r e h =
+      absurd (true≢false (sym (both-true (same_bytes q (bytes_of "=")) false (both-true (same_bytes m (or_bytes n.name ++ suffix n.depth)) _ h).1).1))
   named-line (m ∷ q ∷ v ∷ ts) r e h =
       let p = both-true (same_bytes m (or_bytes n.name ++ suffix n.depth)) _ h in
       let k = both-true (same_bytes q (bytes_of "=")) _ p.1 in
@@ -254,4 +268,5 @@ module _ (g : Graph) (codes : ℕ) (c : Code) (are : AreNamed g codes c) (x : �
       go (Some r) e k =
           let so : is_named n.kind ≡ true = named-by-verb n.kind ∙ ap is_some e in
           let z : same_line w (Bytes (or_bytes n.name ++ suffix n.depth) ∷ Bytes (bytes_of "=") ∷ tokens g c n.kind) ≡ true = rw (line_by, so) at k in
-          named-line w r e (ap (λ ts. same_line w (Bytes (or_bytes n.name ++ suffix n.depth) ∷ Bytes (bytes_of "=") ∷ ts)) (sym (tokens-of-kind g c n.kind)) ∙ z)
+          named-line w r e (ap (λ ts. same_line w (Bytes (or_bytes n.name ++ suffix n.depth) ∷ Bytes (bytes_of "=") ∷ ts))
+          (sym (tokens-of-kind g c n.kind)) ∙ z)

@@ -1,5 +1,6 @@
 -- A code of a text's graph is the code of its tree of sentences.
-use Rattle.std.proofs.Common.{◌≡◌, ℕ, zero, suc, ◌+◌, ◌<◌, ◌≤◌, Bool, true, false, ◌&&◌, nat_lt, List, [], ◌∷◌, ◌++◌, length, map, drop, Option, Some, None, refl, sym, ap, ap₂, subst, ◌∙◌, true≢false, append_assoc, arith, inl, inr, ◌⊎◌, ⊎_elim}
+use Rattle.std.proofs.Common.{◌≡◌, ℕ, zero, suc, ◌+◌, ◌<◌, ◌≤◌, Bool, true, false, ◌&&◌, nat_lt, List, [], ◌∷◌, ◌++◌, length, map, drop, Option}
+use Rattle.std.proofs.Common.{Some, None, refl, sym, ap, ap₂, subst, ◌∙◌, true≢false, append_assoc, arith, inl, inr, ◌⊎◌, ⊎_elim}
 use Rattle.std.specs.Prelude.{slice_get}
 use Rattle.std.proofs.lemmas.Bool.{cases_lt}
 use Rattle.tam_word.specs.Lists.{all_of, same_bytes}
@@ -46,7 +47,8 @@ pub data Lined (g : Graph) (c : Code) : List Sentence → ℕ → ℕ → Type 0
   Passes : {s : Sentence} {ss : List Sentence} {x y : ℕ} → is_node s.verb ≡ false → makes s.verb ≡ None → Lined g c ss x y → Lined g c (s ∷ ss) x y
 
 -- the lines of a tree, and lines behind it
-pub tree-lined : (g : Graph) (c : Code) (t : Tree) (x y : ℕ) (rest : List Sentence) → Fits t → SaysAll g c t x → Lined g c rest (x + size (shape t)) y → Lined g c (flat t ++ rest) x y
+pub tree-lined : (g : Graph) (c : Code) (t : Tree) (x y : ℕ) (rest : List Sentence) → Fits t → SaysAll g c t x
+    → Lined g c rest (x + size (shape t)) y → Lined g c (flat t ++ rest) x y
 tree-lined g c Done x y rest f s l = let e : x + 0 ≡ x = omega arith in subst (λ z. Lined g c rest z y) e l
 tree-lined g c (Plain u r) x y rest f s l =
     let e : x + suc (size (shape r)) ≡ suc x + size (shape r) = omega arith in
@@ -100,7 +102,8 @@ line-entry g c x s says t m i = go (makes s.verb) refl
         }
 
 -- an entry of lines is that of one of their nodes
-pub entry-node : (g : Graph) (c : Code) (ss : List Sentence) (x y : ℕ) → Lined g c ss x y → (t : List ℕ) (m : Made) → In (t, m) (node_list x ss) → IsEntryOf c t m
+pub entry-node : (g : Graph) (c : Code) (ss : List Sentence) (x y : ℕ) → Lined g c ss x y → (t : List ℕ) (m : Made)
+    → In (t, m) (node_list x ss) → IsEntryOf c t m
 entry-node g c [] x y Ends t m i = absurd i
 entry-node g c (s ∷ ss) x y (Makes is says l) t m i =
     let next : number_behind s.verb x ≡ suc x = rw (number_behind, is) (omega arith) in
@@ -109,26 +112,32 @@ entry-node g c (s ∷ ss) x y (Makes is says l) t m i =
 entry-node g c (s ∷ ss) x y (Passes is none l) t m i =
     let next : number_behind s.verb x ≡ x = rw (number_behind, is) refl in
     let no_entry : node_entries x s ≡ [] = rw (node_entries, none) refl in
-    entry-node g c ss x y l t m (subst (λ z. In (t, m) (node_list z ss)) next (subst (λ es. In (t, m) (es ++ node_list (number_behind s.verb x) ss)) no_entry i))
+    entry-node g c ss x y l t m (subst (λ z. In (t, m) (node_list z ss)) next
+    (subst (λ es. In (t, m) (es ++ node_list (number_behind s.verb x) ss)) no_entry i))
 
 -- a node with a name is entered
-pub node-entry : (g : Graph) (c : Code) (ss : List Sentence) (x y : ℕ) → Lined g c ss x y → (a : ℕ) (n : Node) (t : List ℕ) (r : Role) → x ≤ a → a < y → slice_get c.nodes a ≡ Some n → n.name ≡ Some t
+pub node-entry : (g : Graph) (c : Code) (ss : List Sentence) (x y : ℕ) → Lined g c ss x y → (a : ℕ) (n : Node) (t : List ℕ) (r : Role) → x ≤ a → a < y
+    → slice_get c.nodes a ≡ Some n → n.name ≡ Some t
     → makes (verb_of n.kind) ≡ Some r → In (t, record { role = r; number = a }) (node_list x ss)
 node-entry g c [] x y Ends a n t r lo hi e f h = absurd (omega arith)
 node-entry g c (s ∷ ss) x y (Makes is says l) a n t r lo hi e f h = at (cases_lt x a) (λ more. node-entry g c ss (suc x) y l a n t r more hi e f h)
   where
-    at : (x < a) ⊎ (a ≤ x) → (suc x ≤ a → In (t, record { role = r; number = a }) (node_list (suc x) ss)) → In (t, record { role = r; number = a }) (node_list x (s ∷ ss))
+    at : (x < a) ⊎ (a ≤ x) → (suc x ≤ a → In (t, record { role = r; number = a }) (node_list (suc x) ss))
+        → In (t, record { role = r; number = a }) (node_list x (s ∷ ss))
     at (inl more) later =
         let next : number_behind s.verb x ≡ suc x = rw (number_behind, is) (omega arith) in
-        right-in (t, record { role = r; number = a }) (node_entries x s) (node_list (number_behind s.verb x) ss) (subst (λ z. In (t, record { role = r; number = a }) (node_list z ss)) (sym next) (later (omega arith)))
+        right-in (t, record { role = r; number = a }) (node_entries x s) (node_list (number_behind s.verb x) ss)
+        (subst (λ z. In (t, record { role = r; number = a }) (node_list z ss)) (sym next) (later (omega arith)))
     at (inr less) later =
         let same : x ≡ a = omega arith in
         let some : Some says.node ≡ Some n = sym says.there ∙ (ap (slice_get c.nodes) same ∙ e) in
         let node : says.node ≡ n = cc in
         let role_is : makes s.verb ≡ Some r = ap makes says.verb ∙ ap (λ z. makes (verb_of z.kind)) node ∙ h in
         let named : In t (names_made s) = subst (λ ns. In t ns) (sym says.names) (one-named says.node.name t (ap (λ z. z.name) node ∙ f)) in
-        let made : In (t, record { role = r; number = x }) (node_entries x s) = rw (node_entries, role_is) (map-in (λ k. (k, record { role = r; number = x })) t (names_made s) named) in
-        left-in (t, record { role = r; number = a }) (node_entries x s) (node_list (number_behind s.verb x) ss) (subst (λ z. In (t, record { role = r; number = z }) (node_entries x s)) same made)
+        let made : In (t, record { role = r; number = x }) (node_entries x s) =
+        rw (node_entries, role_is) (map-in (λ k. (k, record { role = r; number = x })) t (names_made s) named) in
+        left-in (t, record { role = r; number = a }) (node_entries x s) (node_list (number_behind s.verb x) ss)
+        (subst (λ z. In (t, record { role = r; number = z }) (node_entries x s)) same made)
 node-entry g c (s ∷ ss) x y (Passes is none l) a n t r lo hi e f h =
     let next : number_behind s.verb x ≡ x = rw (number_behind, is) refl in
     right-in (t, record { role = r; number = a }) (node_entries x s) (node_list (number_behind s.verb x) ss)
@@ -155,7 +164,8 @@ found-sure t es m i only = go (found t es) refl
 
 module _ (g : Graph) (codes : ℕ) (c : Code) (are : AreNamed g codes c) (code : IsCode c) (ss : List Sentence) (lined : Lined g c ss 0 (length c.nodes)) where
   -- an entry of the name of a node is that node's
-  only-entry : (a : ℕ) (n : Node) (t : List ℕ) (r : Role) → slice_get c.nodes a ≡ Some n → n.name ≡ Some t → makes (verb_of n.kind) ≡ Some r → (m : Made) → In (t, m) (node_list 0 ss) → m ≡ record { role = r; number = a }
+  only-entry : (a : ℕ) (n : Node) (t : List ℕ) (r : Role) → slice_get c.nodes a ≡ Some n → n.name ≡ Some t → makes (verb_of n.kind) ≡ Some r → (m : Made)
+      → In (t, m) (node_list 0 ss) → m ≡ record { role = r; number = a }
   only-entry a n t r e f h m i =
       let k = entry-node g c ss 0 (length c.nodes) lined t m i in
       let number : m.number ≡ a = one-node c code m.number a t (ap name_of k.there ∙ k.name) (ap name_of e ∙ f) in
@@ -176,7 +186,8 @@ module _ (g : Graph) (codes : ℕ) (c : Code) (are : AreNamed g codes c) (code :
       → (m : Made) × (found t (nodes_from 0 ss []) ≡ Some m) × (m.number ≡ a) × (same_role r m.role ≡ true)
   node-found r a k t h = go (makes (verb_of k.node.kind)) refl
     where
-      go : (o : Option Role) → makes (verb_of k.node.kind) ≡ o → (m : Made) × (found t (nodes_from 0 ss []) ≡ Some m) × (m.number ≡ a) × (same_role r m.role ≡ true)
+      go : (o : Option Role) → makes (verb_of k.node.kind) ≡ o
+          → (m : Made) × (found t (nodes_from 0 ss []) ≡ Some m) × (m.number ≡ a) × (same_role r m.role ≡ true)
       go None e = absurd (true≢false (sym (rw (named_for, e) at k.role)))
       go (Some q) e =
           let name = given-name k.node k.named (are.nodes_named a k.node k.there) in

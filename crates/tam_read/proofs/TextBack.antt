@@ -1,5 +1,6 @@
 -- A text that reads as a graph has no fault, and the graph is that of its codes.
-use Rattle.std.proofs.Common.{◌≡◌, ℕ, zero, suc, ◌+◌, ◌<◌, ◌≤◌, Bool, true, false, ◌&&◌, ◌==◌, nat_lt, List, [], ◌∷◌, ◌++◌, length, map, flat_map, Some, None, Option, refl, sym, ap, ap₂, subst, ◌∙◌, true≢false, append_assoc, arith, inl, inr, ◌⊎◌, ⊎_elim}
+use Rattle.std.proofs.Common.{◌≡◌, ℕ, zero, suc, ◌+◌, ◌<◌, ◌≤◌, Bool, true, false, ◌&&◌, ◌==◌, nat_lt, List, [], ◌∷◌, ◌++◌, length, map, flat_map, Some, None}
+use Rattle.std.proofs.Common.{Option, refl, sym, ap, ap₂, subst, ◌∙◌, true≢false, append_assoc, arith, inl, inr, ◌⊎◌, ⊎_elim}
 use Rattle.std.specs.Prelude.{codes as bytes_of, slice_get, sum_by}
 use Rattle.std.proofs.lemmas.Bool.{ltb-true}
 use Rattle.std.proofs.lemmas.List.{append-nil, map-append}
@@ -33,7 +34,8 @@ use Rattle.tam_read.proofs.Looked.{code_list, found-codes}
 use Rattle.tam_read.proofs.TreeBuilt.{shape, tree_nodes, tree_owners}
 use Rattle.tam_read.proofs.TreeVisited.{in_row, below-row}
 use Rattle.tam_read.proofs.BlocksInOrder.{IsOfTree, few-blocks}
-use Rattle.tam_read.proofs.ReadCodes.{body_lines, body-no-code, known_of, known_among, code_of_lines, codes_read, plain_pieces, unnumbered, pieces-unnumbered, pieces-of-codes, codes-said, codes-of-pieces, code_said}
+use Rattle.tam_read.proofs.ReadCodes.{body_lines, body-no-code, known_of, known_among, code_of_lines, codes_read, plain_pieces}
+use Rattle.tam_read.proofs.ReadCodes.{unnumbered, pieces-unnumbered, pieces-of-codes, codes-said, codes-of-pieces, code_said}
 use Rattle.tam_read.proofs.Worded.{words_said}
 use Rattle.tam_read.proofs.Spelling.{IsGood}
 use Rattle.tam_read.proofs.TreeSpelled.{IsGoodLine}
@@ -70,7 +72,8 @@ names-entered g n (c ∷ cs) (d ∷ ds) s =
     let first : code_entries n d.head ≡ (c.name, record { role = role.Callee; number = n }) ∷ [] = ap (code_entries n) (s.0).head in
     let next : code_behind d.head.verb n ≡ suc n = ap (λ v. code_behind v n) d.begins ∙ omega arith in
     ap₂ (λ es k. es ++ code_list k (body_lines d ++ lines_of_codes ds)) first next
-    ∙ ap (λ es. (c.name, record { role = role.Callee; number = n }) ∷ es) (skip-lines (suc n) (body_lines d) (lines_of_codes ds) (body-no-code d) ∙ names-entered g (suc n) cs ds s.1)
+    ∙ ap (λ es. (c.name, record { role = role.Callee; number = n }) ∷ es)
+    (skip-lines (suc n) (body_lines d) (lines_of_codes ds) (body-no-code d) ∙ names-entered g (suc n) cs ds s.1)
 
 pub name-found : (n : ℕ) (cs : List Code) → all_differ same_bytes (map (λ c. c.name) cs) ≡ true → (i : ℕ) (c : Code) → slice_get cs i ≡ Some c
     → found c.name (code_names n cs) ≡ Some (record { role = role.Callee; number = n + i })
@@ -105,13 +108,16 @@ differ-parts [] ys d = (λ n p q. p, d)
 differ-parts (x ∷ xs) ys d =
     let h = differ-behind x (xs ++ ys) d in
     let i = differ-parts xs ys h.1 in (
-      λ n p q. ⊎_elim (λ same. true≢false (sym (in-any (same_bytes x) (xs ++ ys) n (right-in n xs ys q) (ap (same_bytes x) (sym same) ∙ same_self x)) ∙ h.0)) (λ k. i.0 n k q) p,
+      λ n p q. ⊎_elim (λ same. true≢false (sym (in-any (same_bytes x) (xs ++ ys) n (right-in n xs ys q) (ap (same_bytes x) (sym same) ∙ same_self x)) ∙ h.0))
+          (λ k. i.0 n k q) p,
       i.1,
     )
 
 differ-lines : (ss : List Sentence) → all_differ same_bytes (flat_map names_made ss) ≡ true → DifferBehind ss
 differ-lines [] d = tt
-differ-lines (s ∷ ss) d = let p = differ-parts (names_made s) (flat_map names_made ss) (ap (all_differ same_bytes) (sym (flat_map-cons names_made s ss)) ∙ d) in (p.0, differ-lines ss p.1)
+differ-lines (s ∷ ss) d =
+    let p = differ-parts (names_made s) (flat_map names_made ss) (ap (all_differ same_bytes) (sym (flat_map-cons names_made s ss)) ∙ d) in
+    (p.0, differ-lines ss p.1)
 
 -- ---- new codes
 
@@ -121,7 +127,8 @@ begun-behind before (s ∷ ss) none =
     let nothing : code_begun s ≡ [] = rw (code_begun, none.0) refl in
     begun-behind (s ∷ before) ss none.1 ∙ flat_map-cons code_begun s before ∙ ap (λ ns. ns ++ flat_map code_begun before) nothing
 
-pub new-codes : (g : Graph) (before : List Sentence) (cs : List Code) (ds : List CodeLines) → AreSaid g cs ds → all_differ same_bytes (map (λ c. c.name) cs) ≡ true
+pub new-codes : (g : Graph) (before : List Sentence) (cs : List Code) (ds : List CodeLines) → AreSaid g cs ds
+    → all_differ same_bytes (map (λ c. c.name) cs) ≡ true
     → Apart (map (λ c. c.name) cs) (flat_map code_begun before) → length cs + length (flat_map code_begun before) ≤ 256 → AreNewCodes before ds
 new-codes g before [] [] s d apart few = tt
 new-codes g before [] (x ∷ ds) s d apart few = absurd s
@@ -130,11 +137,13 @@ new-codes g before (c ∷ cs) (x ∷ ds) s d apart few =
     let p = differ-behind c.name (map (λ c. c.name) cs) d in
     let begun : code_begun x.head ≡ c.name ∷ [] = ap code_begun (s.0).head in
     let next : flat_map code_begun (put_before before (lines_of_code x)) ≡ c.name ∷ flat_map code_begun before =
-    begun-behind (x.head ∷ before) (body_lines x) (body-no-code x) ∙ flat_map-cons code_begun x.head before ∙ ap (λ ns. ns ++ flat_map code_begun before) begun in (
+    begun-behind (x.head ∷ before) (body_lines x) (body-no-code x) ∙ flat_map-cons code_begun x.head before
+    ∙ ap (λ ns. ns ++ flat_map code_begun before) begun in (
       λ n h q. ⊎_elim (λ same. apart n (inl same) q) (λ k. k) (subst (λ ns. In n ns) begun h),
       omega (arith, few),
       new-codes g (put_before before (lines_of_code x)) cs ds s.1 p.1
-          (λ n h q. ⊎_elim (λ same. true≢false (sym (in-any (same_bytes c.name) (map (λ c. c.name) cs) n h (ap (same_bytes c.name) (sym same) ∙ same_self c.name)) ∙ p.0)) (λ k. apart n (inr h) k)
+          (λ n h q. ⊎_elim (λ same. true≢false (sym
+          (in-any (same_bytes c.name) (map (λ c. c.name) cs) n h (ap (same_bytes c.name) (sym same) ∙ same_self c.name)) ∙ p.0)) (λ k. apart n (inr h) k)
           (subst (λ ns. In n ns) next q))
           (omega (arith, few, ap length next)),
     )
@@ -149,7 +158,8 @@ said-there g (c ∷ cs) (x ∷ ds) s d (inr i) = let r = said-there g cs ds s.1 
 
 -- ---- one code
 
-module _ (g : Graph) (codes : ℕ) (few : codes ≤ 256) (c : Code) (are : AreNamed g codes c) (of : IsCodeOfText codes c) (d : CodeLines) (said : IsSaidCode g c d) (es : Entries) (known : AreCodes g codes es) where
+module _ (g : Graph) (codes : ℕ) (few : codes ≤ 256) (c : Code) (are : AreNamed g codes c) (of : IsCodeOfText codes c) (d : CodeLines) (said : IsSaidCode g c d)
+    (es : Entries) (known : AreCodes g codes es) where
   many : length c.nodes ≡ size (shape d.body)
   many = said.numbered.many ∙ ap size (sym said.same)
 
@@ -164,7 +174,8 @@ module _ (g : Graph) (codes : ℕ) (few : codes ≤ 256) (c : Code) (are : AreNa
 
   nodes-are : c.nodes ≡ tree_nodes (known_of es d) d.body 0 1
   nodes-are =
-      nodes-same g codes c are (node-right codes c of) a_code (body_lines d) lined es known d.body said.numbered.tree said.same said.numbered.stands said.numbered.nodes said.numbered.blocks said.says said.numbered.many
+      nodes-same g codes c are (node-right codes c of) a_code (body_lines d) lined es known d.body said.numbered.tree said.same
+      said.numbered.stands said.numbered.nodes said.numbered.blocks said.says said.numbered.many
 
   owners-are : c.owners ≡ None ∷ tree_owners d.body 0
   owners-are = said.numbered.owners ∙ ap (λ os. None ∷ os) (owners-back d.body said.numbered.tree 0 said.same said.numbered.nodes)
@@ -173,7 +184,8 @@ module _ (g : Graph) (codes : ℕ) (few : codes ≤ 256) (c : Code) (are : AreNa
   code-is =
       let make : List ℕ → List Node → List (Option ℕ) → Code = λ n ns os. record { name = n; nodes = ns; owners = os } in
       let name : c.name ≡ or_nameless (code_begun d.head) = sym (ap (λ s. or_nameless (code_begun s)) said.head) in
-      ap (λ n. make n c.nodes c.owners) name ∙ ap (λ ns. make (or_nameless (code_begun d.head)) ns c.owners) nodes-are ∙ ap (make (or_nameless (code_begun d.head)) (tree_nodes (known_of es d) d.body 0 1)) owners-are
+      ap (λ n. make n c.nodes c.owners) name ∙ ap (λ ns. make (or_nameless (code_begun d.head)) ns c.owners) nodes-are
+      ∙ ap (make (or_nameless (code_begun d.head)) (tree_nodes (known_of es d) d.body 0 1)) owners-are
 
   of-tree : IsOfTree (known_of es d) d.body c
   of-tree = record { fits = d.fits; nodes = nodes-are; owners = owners-are }
@@ -181,7 +193,8 @@ module _ (g : Graph) (codes : ℕ) (few : codes ≤ 256) (c : Code) (are : AreNa
   -- no line of its body has a fault by itself
   pub body-faultless : (s : Sentence) → In s (body_lines d) → IsFaultless (known_of es d) s
   body-faultless s i =
-      let close : IsFaultless (known_of es d) d.close = subst (λ z. IsFaultless (known_of es d) z) (sym said.close) (record { form = refl; names = refl; numbers = refl; known = refl; parse = refl }) in
+      let close : IsFaultless (known_of es d) d.close =
+      subst (λ z. IsFaultless (known_of es d) z) (sym said.close) (record { form = refl; names = refl; numbers = refl; known = refl; parse = refl }) in
       ⊎_elim (λ h. tree-faultless g codes c are (node-right codes c of) a_code (body_lines d) lined es known d.body 0 d.fits said.says s h)
       (λ h. last s h close) (in-append s (flat d.body) (d.close ∷ []) i)
     where
@@ -193,7 +206,11 @@ module _ (g : Graph) (codes : ℕ) (few : codes ≤ 256) (c : Code) (are : AreNa
   good-line s i =
       let f = body-faultless s i in
       let k = known-right (known_of es d) s f.known in
-      record { form = f.form; node = λ e. record { node = e; form = f.form; names = (names-right s f.names).0; numbers = numbers-right s f.numbers; nodes = k.0; codes = k.1 } }
+      record {
+        form = f.form;
+        node =
+            λ e. record { node = e; form = f.form; names = (names-right s f.names).0; numbers = numbers-right s f.numbers; nodes = k.0; codes = k.1 };
+      }
 
   head-right : (has_bad_name d.head ≡ false) × (has_bad_number d.head ≡ false) × (names_made d.head ≡ []) × (sentence_of (words_said d.head) ≡ d.head ∷ [])
   head-right =
@@ -225,16 +242,21 @@ module _ (g : Graph) (codes : ℕ) (few : codes ≤ 256) (c : Code) (are : AreNa
   bounded =
       let q = known_of es d in
       let long : length c.owners ≡ suc (opened (shape d.body)) = few-blocks (known_of es d) d.body c of-tree in
-      let holds = holds-back g codes c are (node-right codes c of) a_code (body_lines d) lined es known d.body said.numbered.tree 0 0 1 said.same said.numbered.stands said.numbered.nodes said.numbered.blocks said.says in
+      let holds = holds-back g codes c are (node-right codes c of) a_code (body_lines d) lined es known d.body said.numbered.tree 0 0 1 said.same
+      said.numbered.stands said.numbered.nodes said.numbered.blocks said.says in
       let owned : Owned c d.body 0 1 = owns c d.body 0 1 (None ∷ []) [] (owners-are ∙ ap (λ os. None ∷ os) (sym (append-nil (tree_owners d.body 0)))) refl in
       let first : slice_get c.owners 0 ≡ Some None = ap (λ os. slice_get os 0) owners-are in
       let shallow : (z : ℕ) → z < length c.owners → depth_of_block (length c.owners) c z ≤ 16 = λ z l.
-      (let i : depth_of_block (length c.owners) c z < 17 = ltb-true _ 17 (all-in (λ b. nat_lt (depth_of_block (length c.owners) c b) 17) (blocks_of c) of.written.shallow z (below-in z (length c.owners) l)) in omega arith) in
+      (let i : depth_of_block (length c.owners) c z < 17 =
+      ltb-true _ 17 (all-in (λ b. nat_lt (depth_of_block (length c.owners) c b) 17) (blocks_of c) of.written.shallow z (below-in z (length c.owners) l)) in
+      omega arith) in
       let small : (z : ℕ) → z < length c.owners → counted z d.body 0 1 ≤ 128 = λ z l.
-      (let i : number_of_vertices c z < 129 = ltb-true _ 129 (all-in (λ b. nat_lt (number_of_vertices c b) 129) (blocks_of c) of.written.small_blocks z (below-in z (length c.owners) l)) in
+      (let i : number_of_vertices c z < 129 =
+      ltb-true _ 129 (all-in (λ b. nat_lt (number_of_vertices c b) 129) (blocks_of c) of.written.small_blocks z (below-in z (length c.owners) l)) in
       let e = vertices-are q d.body c of-tree z in omega (arith, i, e)) in
       let outer = small 0 (omega (arith, long)) in
-      bounded-back c q (length c.owners) d.body 0 0 1 0 0 holds owned (omega arith) (omega arith) (omega (arith, long)) (top first) shallow (omega (arith, outer)) (λ z lo hi. small z (omega (arith, long)))
+      bounded-back c q (length c.owners) d.body 0 0 1 0 0 holds owned (omega arith) (omega arith) (omega (arith, long)) (top first) shallow
+      (omega (arith, outer)) (λ z lo hi. small z (omega (arith, long)))
     where
       top : slice_get c.owners 0 ≡ Some None → StandsIn c 0 0
       top e zero l = refl
@@ -244,11 +266,13 @@ module _ (g : Graph) (codes : ℕ) (few : codes ≤ 256) (c : Code) (are : AreNa
   pub cleanable : IsCleanable d
   cleanable =
       let names : all_differ same_bytes (flat_map names_made (flat d.body)) ≡ true =
-      ap (all_differ same_bytes) (sym (ap (λ ns. given_names (map (λ n. n.name) ns)) nodes-are ∙ tree-names (known_of es d) d.body 0 1 d.fits (λ s i. good-line s (left-in s (flat d.body) (d.close ∷ []) i)))) ∙ of.nodes_differ in
+      ap (all_differ same_bytes) (sym (ap (λ ns. given_names (map (λ n. n.name) ns)) nodes-are
+      ∙ tree-names (known_of es d) d.body 0 1 d.fits (λ s i. good-line s (left-in s (flat d.body) (d.close ∷ []) i)))) ∙ of.nodes_differ in
       let no_name : names_made d.close ≡ [] = ap names_made said.close in
       let close : flat_map names_made (d.close ∷ []) ≡ [] = flat_map-cons names_made d.close [] ∙ ap (λ ns. ns ++ []) no_name in
       let all : flat_map names_made (body_lines d) ≡ flat_map names_made (flat d.body) =
-      flat_map-append names_made (flat d.body) (d.close ∷ []) ∙ ap (λ ns. flat_map names_made (flat d.body) ++ ns) close ∙ append-nil (flat_map names_made (flat d.body)) in
+      flat_map-append names_made (flat d.body) (d.close ∷ []) ∙ ap (λ ns. flat_map names_made (flat d.body) ++ ns) close
+      ∙ append-nil (flat_map names_made (flat d.body)) in
       let no_vertex : vertices (d.close ∷ []) ≡ 0 = ap (λ s. vertices (s ∷ [])) said.close in
       record {
         bounded = bounded;

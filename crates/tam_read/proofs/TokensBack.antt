@@ -1,5 +1,6 @@
 -- The tokens of the line of a node of a text's graph: names are names, numbers are numbers, and a name with its depth gives both back.
-use Rattle.std.proofs.Common.{◌≡◌, ℕ, zero, suc, ◌+◌, ◌-◌, ◌^◌, ◌<◌, ◌≤◌, Bool, true, false, not, ◌&&◌, ◌||◌, ◌==◌, nat_lt, List, [], ◌∷◌, ◌++◌, length, map, take, Option, Some, None, refl, sym, ap, ap₂, subst, ◌∙◌, true≢false, arith, inl, inr}
+use Rattle.std.proofs.Common.{◌≡◌, ℕ, zero, suc, ◌+◌, ◌-◌, ◌^◌, ◌<◌, ◌≤◌, Bool, true, false, not, ◌&&◌, ◌||◌, ◌==◌, nat_lt, List, [], ◌∷◌, ◌++◌}
+use Rattle.std.proofs.Common.{length, map, take, Option, Some, None, refl, sym, ap, ap₂, subst, ◌∙◌, true≢false, arith, inl, inr}
 use Rattle.std.specs.Prelude.{codes as bytes_of, decimal, slice_get, slice_index, is_some, nat_le}
 use Rattle.std.proofs.Math.Dec.{leb}
 use Rattle.std.proofs.lemmas.Bool.{leb-true, le-leb}
@@ -103,7 +104,8 @@ module _ (g : Graph) (codes : ℕ) (c : Code) (are : AreNamed g codes c) where
       ap is_name (same_equal t (node_name c a) h ∙ ap or_name k.there) ∙ n.1
 
   -- a token in the place of a name is one
-  pub token-named : (r : Role) (t : List ℕ) (a : ℕ) → is_no_code r ≡ true → is_token t (role_token g c r a) ≡ true → is_right codes c r a ≡ true → is_name_for r t ≡ true
+  pub token-named : (r : Role) (t : List ℕ) (a : ℕ) → is_no_code r ≡ true → is_token t (role_token g c r a) ≡ true
+      → is_right codes c r a ≡ true → is_name_for r t ≡ true
   token-named role.Value t a n h k = by-node t role.Value a (operand-named c a k) h
   token-named role.Call t a n h k = by-node t role.Call a (call-named c a k) h
   token-named role.Cond t a n h k = by-node t role.Cond a (cond-named c a k) h
@@ -183,11 +185,13 @@ name-plain n h = go (leb 2 (length n)) refl
     go true p = let two : 2 ≤ length n = leb-true 2 (length n) p in rw (has_depth, p, no-colon n (length n - 2) (name-bytes n h) (omega arith)) refl
 
 -- the last two of a list with two more
-ends : (n : List ℕ) (a b : ℕ) → (slice_index (n ++ a ∷ b ∷ []) (length n) ≡ a) × (slice_index (n ++ a ∷ b ∷ []) (suc (length n)) ≡ b) × (take (length n) (n ++ a ∷ b ∷ []) ≡ n)
+ends : (n : List ℕ) (a b : ℕ) → (slice_index (n ++ a ∷ b ∷ []) (length n) ≡ a) × (slice_index (n ++ a ∷ b ∷ []) (suc (length n)) ≡ b)
+    × (take (length n) (n ++ a ∷ b ∷ []) ≡ n)
 ends [] a b = (refl, refl, refl)
 ends (x ∷ xs) a b = let i = ends xs a b in (i.0, i.1, ap (λ l. x ∷ l) i.2)
 
-with-depth : (n : List ℕ) (d : ℕ) → 1 ≤ d → d ≤ 3 → (has_depth (n ++ 58 ∷ (48 + d) ∷ []) ≡ true) × (without_depth (n ++ 58 ∷ (48 + d) ∷ []) ≡ n) × (depth_written (n ++ 58 ∷ (48 + d) ∷ []) ≡ d)
+with-depth : (n : List ℕ) (d : ℕ) → 1 ≤ d → d ≤ 3
+    → (has_depth (n ++ 58 ∷ (48 + d) ∷ []) ≡ true) × (without_depth (n ++ 58 ∷ (48 + d) ∷ []) ≡ n) × (depth_written (n ++ 58 ∷ (48 + d) ∷ []) ≡ d)
 with-depth n d lo hi =
     let t = n ++ 58 ∷ (48 + d) ∷ [] in
     let long : length t ≡ suc (suc (length n)) = length-append n (58 ∷ (48 + d) ∷ []) ∙ omega arith in
@@ -224,13 +228,15 @@ role-turned role.Value = refl
 role-turned r = refl
 
 -- a name and a depth come back, of a verb that may have a depth, and of one that may not
-pub name-back : (v : Verb) (n : List ℕ) (d : ℕ) → is_name n ≡ true → d ≤ 3 → (named_for role.Value v ≡ false → d ≡ 0) → (name_made v (n ++ suffix d) ≡ n) × (depth_made v ((n ++ suffix d) ∷ []) ≡ d)
+pub name-back : (v : Verb) (n : List ℕ) (d : ℕ) → is_name n ≡ true → d ≤ 3 → (named_for role.Value v ≡ false → d ≡ 0)
+    → (name_made v (n ++ suffix d) ≡ n) × (depth_made v ((n ++ suffix d) ∷ []) ≡ d)
 name-back v n d h few none = go (makes v) refl
   where
     plain : d ≡ 0 → n ++ suffix d ≡ n
     plain e = ap (λ k. n ++ suffix k) e ∙ append-nil n
 
-    by_role : (r : Role) (b : Bool) → same_role r role.Value ≡ b → makes v ≡ Some r → (name_made v (n ++ suffix d) ≡ n) × (depth_made v ((n ++ suffix d) ∷ []) ≡ d)
+    by_role : (r : Role) (b : Bool) → same_role r role.Value ≡ b → makes v ≡ Some r
+        → (name_made v (n ++ suffix d) ≡ n) × (depth_made v ((n ++ suffix d) ∷ []) ≡ d)
     by_role r true p e = let w = written-back n d h few in (rw (name_made, e, p) w.0, rw (depth_made, e, p) w.1)
     by_role r false p e =
         let zero_d : d ≡ 0 = none (rw (named_for, e) (sym (role-turned r) ∙ p)) in

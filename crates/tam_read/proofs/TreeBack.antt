@@ -1,5 +1,6 @@
 -- Lines that spell the lines of a code are the lines of a tree of sentences, one for each of its nodes.
-use Rattle.std.proofs.Common.{◌≡◌, ℕ, zero, suc, ◌+◌, ◌<◌, ◌≤◌, Bool, true, false, ◌&&◌, List, [], ◌∷◌, ◌++◌, length, map, Some, None, refl, sym, ap, ap₂, subst, ◌∙◌, true≢false, append_assoc, arith, inl, inr}
+use Rattle.std.proofs.Common.{◌≡◌, ℕ, zero, suc, ◌+◌, ◌<◌, ◌≤◌, Bool, true, false, ◌&&◌, List, [], ◌∷◌, ◌++◌, length, map, Some}
+use Rattle.std.proofs.Common.{None, refl, sym, ap, ap₂, subst, ◌∙◌, true≢false, append_assoc, arith, inl, inr}
 use Rattle.std.specs.Prelude.{codes as bytes_of, slice_get}
 use Rattle.std.proofs.lemmas.List.{map-append}
 use Rattle.tam_word.specs.Lists.{same_bytes}
@@ -50,7 +51,13 @@ split-lines [] (l ∷ ls) ms h = absurd (true≢false (sym h))
 split-lines (w ∷ ws) (l ∷ ls) ms h =
     let p = both-true (same_line w l) (same_lines ws (ls ++ ms)) h in
     let i = split-lines ws ls ms p.1 in
-    record { front = w ∷ i.front; back = i.back; parts = ap (λ vs. w ∷ vs) i.parts; first = both-hold (same_line w l) (same_lines i.front ls) p.0 i.first; second = i.second }
+    record {
+      front = w ∷ i.front;
+      back = i.back;
+      parts = ap (λ vs. w ∷ vs) i.parts;
+      first = both-hold (same_line w l) (same_lines i.front ls) p.0 i.first;
+      second = i.second;
+    }
 
 -- a line before others
 pub record IsFirst (ws : List (List (List ℕ))) (l : Line) (ls : List Line) : Type 0 where
@@ -104,7 +111,8 @@ pub record IsBack (g : Graph) (c : Code) (t : Numbered) (x : ℕ) (ws : List (Li
   pub says : SaysAll g c tree x
 
 -- the visits of a branch, one behind the other
-branch-visits : (x : ℕ) (vy vn vr : List Visit) → (AtNode x ∷ ((vy ++ (AtElse x ∷ vn ++ AtEnd x ∷ [])) ++ vr)) ≡ AtNode x ∷ (vy ++ (AtElse x ∷ (vn ++ (AtEnd x ∷ vr))))
+branch-visits : (x : ℕ) (vy vn vr : List Visit)
+    → (AtNode x ∷ ((vy ++ (AtElse x ∷ vn ++ AtEnd x ∷ [])) ++ vr)) ≡ AtNode x ∷ (vy ++ (AtElse x ∷ (vn ++ (AtEnd x ∷ vr))))
 branch-visits x vy vn vr =
     ap (λ l. AtNode x ∷ l) (append_assoc vy (AtElse x ∷ vn ++ AtEnd x ∷ []) vr ∙ ap (λ l. vy ++ (AtElse x ∷ l)) (append_assoc vn (AtEnd x ∷ []) vr))
 
@@ -136,11 +144,13 @@ module _ (g : Graph) (codes : ℕ) (c : Code) (are : AreNamed g codes c) (right 
       let vn = numbered_visits ns in
       let vr = numbered_visits r in
       let show : List Visit → List Line = map (visit_line g c) in
-      let shown : show (numbered_visits (Cond1 y p a d ys ns r)) ≡ node_line g c y ∷ (show vy ++ (visit_line g c (AtElse y) ∷ (show vn ++ (end_line ∷ show vr)))) =
+      let shown : show (numbered_visits (Cond1 y p a d ys ns r))
+      ≡ node_line g c y ∷ (show vy ++ (visit_line g c (AtElse y) ∷ (show vn ++ (end_line ∷ show vr)))) =
       ap show (branch-visits y vy vn vr)
       ∙ ap (λ ls. node_line g c y ∷ ls) (map-append (visit_line g c) vy (AtElse y ∷ (vn ++ (AtEnd y ∷ vr)))
       ∙ ap (λ ls. show vy ++ (visit_line g c (AtElse y) ∷ ls)) (map-append (visit_line g c) vn (AtEnd y ∷ vr))) in
-      let f = first-line ws (node_line g c y) (show vy ++ (visit_line g c (AtElse y) ∷ (show vn ++ (end_line ∷ show vr)))) (ap (same_lines ws) (sym shown) ∙ h) in
+      let f = first-line ws (node_line g c y) (show vy ++ (visit_line g c (AtElse y) ∷ (show vn ++ (end_line ∷ show vr))))
+      (ap (same_lines ws) (sym shown) ∙ h) in
       let here : same_line f.line (node_line g c x) ≡ true = ap (λ z. same_line f.line (node_line g c z)) (sym i.0) ∙ f.first in
       let k = node-back x (omega arith) f.line here in
       let one = split-lines f.others (show vy) (visit_line g c (AtElse y) ∷ (show vn ++ (end_line ∷ show vr))) f.second in
@@ -161,7 +171,8 @@ module _ (g : Graph) (codes : ℕ) (c : Code) (are : AreNamed g codes c) (right 
         same = ap (λ z. SplitItem z (shape bn.tree) (shape br.tree)) by.same
             ∙ ap (λ z. SplitItem (shape_of ys) z (shape br.tree)) bn.same ∙ ap (SplitItem (shape_of ys) (shape_of ns)) br.same;
         words =
-            f.parts ∙ ap₂ (λ a b. a ∷ b) k.words (one.parts ∙ ap₂ (λ a b. a ++ b) by.words (turn.parts ∙ ap₂ (λ a b. a ∷ b) (alone-back turn.line (bytes_of "else") turn.first)
+            f.parts ∙ ap₂ (λ a b. a ∷ b) k.words (one.parts
+            ∙ ap₂ (λ a b. a ++ b) by.words (turn.parts ∙ ap₂ (λ a b. a ∷ b) (alone-back turn.line (bytes_of "else") turn.first)
             (two.parts ∙ ap₂ (λ a b. a ++ b) bn.words (ends.parts ∙ ap₂ (λ a b. a ∷ b) (alone-back ends.line (bytes_of "end") ends.first) br.words))))
             ∙ sym (ap (λ vs. words_said k.sentence ∷ vs) (map-append words_said (flat by.tree) (t ∷ (flat bn.tree ++ (e ∷ flat br.tree)))
             ∙ ap (λ vs. map words_said (flat by.tree) ++ (words_said t ∷ vs)) (map-append words_said (flat bn.tree) (e ∷ flat br.tree))));
@@ -171,6 +182,7 @@ module _ (g : Graph) (codes : ℕ) (c : Code) (are : AreNamed g codes c) (right 
           refl,
           subst (λ z. SaysAll g c bn.tree (suc x + z)) (sym size_y) bn.says,
           refl,
-          subst (λ z. SaysAll g c br.tree (suc x + z + size (shape bn.tree))) (sym size_y) (subst (λ z. SaysAll g c br.tree (suc x + size (shape_of ys) + z)) (sym size_n) br.says),
+          subst (λ z. SaysAll g c br.tree (suc x + z + size (shape bn.tree))) (sym size_y)
+              (subst (λ z. SaysAll g c br.tree (suc x + size (shape_of ys) + z)) (sym size_n) br.says),
         );
       }

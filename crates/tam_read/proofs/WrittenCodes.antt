@@ -1,11 +1,14 @@
 -- A code that is written has the numbers of its tree: nodes from 0 on, blocks from 1 on, and the owners that the tree opens.
-use Rattle.std.proofs.Common.{◌≡◌, ℕ, zero, suc, ◌+◌, ◌<◌, ◌≤◌, Bool, true, false, List, [], ◌∷◌, ◌++◌, length, map, flat_map, zip, Option, Some, None, refl, sym, ap, ap₂, subst, ◌∙◌, arith}
+use Rattle.std.proofs.Common.{◌≡◌, ℕ, zero, suc, ◌+◌, ◌<◌, ◌≤◌, Bool, true, false, List, [], ◌∷◌, ◌++◌, length, map}
+use Rattle.std.proofs.Common.{flat_map, zip, Option, Some, None, refl, sym, ap, ap₂, subst, ◌∙◌, arith}
 use Rattle.std.proofs.lemmas.List.{append-nil, length-append}
 use Rattle.tam_graph.specs.Graphs.{Code, kind_at, block_at, node_numbers, blocks_of}
 use Rattle.tam_graph.specs.Written.{Visit, AtNode, AtElse, AtEnd, visits, node_visited, opened_by, in_file_order, in_opening_order, IsWritten}
 use Rattle.tam_graph.proofs.Visited.{Items, size, opened, visits_of, Agrees}
 use Rattle.tam_read.proofs.TreeVisited.{in_row, below-row}
-use Rattle.tam_read.proofs.WrittenTrees.{Numbered, Done, Plain, Branch, tree_of, numbered_visits, tree-visits, Stands, tree-stands, shape_of, labels, openings, visited-labels, opened-openings, length-labels, length-openings, InRow, labels-row, BlocksInRow, openings-row, length-row}
+use Rattle.tam_read.proofs.WrittenTrees.{Numbered, Done, Plain, Branch, tree_of, numbered_visits, tree-visits, Stands, tree-stands, shape_of, labels, openings}
+use Rattle.tam_read.proofs.WrittenTrees.{visited-labels, opened-openings, length-labels, length-openings, InRow, labels-row, BlocksInRow, openings-row}
+use Rattle.tam_read.proofs.WrittenTrees.{length-row}
 
 -- the tree's nodes and blocks have the numbers of their places
 pub record IsNumbered (c : Code) : Type 0 where

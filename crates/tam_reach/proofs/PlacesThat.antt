@@ -1,5 +1,6 @@
 -- The places of the vertices that pass a test, and what is kept of other places.
-use Rattle.std.proofs.Common.{◌≡◌, ℕ, zero, suc, ◌+◌, ◌<◌, ◌≤◌, Bool, true, false, ◌&&◌, ◌||◌, ◌==◌, nat_lt, List, [], ◌∷◌, ◌++◌, map, filter, drop, get_or, length, slice_get, refl, sym, ap, ap₂, subst, ◌∙◌, arith, tests, inl, inr, ◌⊎◌}
+use Rattle.std.proofs.Common.{◌≡◌, ℕ, zero, suc, ◌+◌, ◌<◌, ◌≤◌, Bool, true, false, ◌&&◌, ◌||◌, ◌==◌, nat_lt, List, [], ◌∷◌, ◌++◌, map, filter, drop}
+use Rattle.std.proofs.Common.{get_or, length, slice_get, refl, sym, ap, ap₂, subst, ◌∙◌, arith, tests, inl, inr, ◌⊎◌}
 use Rattle.std.proofs.lemmas.List.{append-nil}
 use Rattle.std.proofs.lemmas.List.Elements.{filter-append}
 use Rattle.tam_word.specs.Lists.{below, has}
@@ -11,7 +12,7 @@ use Rattle.tam_sets.specs.Sets.{places_where, with_place, met}
 use Rattle.tam_sets.specs.BitsBack.{all-places, where-filter}
 use Rattle.tam_sets.proofs.PlacesWhere.{places-same, has-where, has-beyond, where-none}
 use Rattle.tam_split.specs.declared.vertex.Vertex.{Vertex}
-use Rattle.tam_split.specs.Blocks.{BlockGraph, or_vertex, vertex_at, inlets_of, outlets_of, places, dependences, demands}
+use Rattle.tam_split.specs.Blocks.{BlockGraph, or_vertex, places, dependences, demands}
 use Rattle.tam_reach.specs.Reached.{places_that}
 use Rattle.tam_reach.proofs.Spread.{reaching, reached, map-twice, map-below}
 
@@ -48,7 +49,8 @@ up_to-more test vs k d h p =
     passes : test (or_vertex (slice_get vs k)) ≡ true
     passes = ap test (vertex-there vs k d h) ∙ p
 
-    each : (x : ℕ) (t : Bool) → (x == k) ≡ t → (s : Bool) → ((s && test (or_vertex (slice_get vs x))) || (x == k)) ≡ ((s || (x == k)) && test (or_vertex (slice_get vs x)))
+    each : (x : ℕ) (t : Bool) → (x == k) ≡ t → (s : Bool) → ((s && test (or_vertex (slice_get vs x))) || (x == k)) ≡
+        ((s || (x == k)) && test (or_vertex (slice_get vs x)))
     each x true e s =
         let q : test (or_vertex (slice_get vs x)) ≡ true = subst (λ y. test (or_vertex (slice_get vs y)) ≡ true) (sym (number-eq x k e)) passes in
         rw (e, q) (both s)
@@ -64,9 +66,11 @@ up_to-more test vs k d h p =
         both false c = refl
 
 -- another adds none
-pub up_to-same : (test : Vertex → Bool) (vs : List Vertex) (k : ℕ) (d : Vertex) → k < length vs → test (get_or vs k d) ≡ false → places_up_to test vs k ≡ places_up_to test vs (k + 1)
+pub up_to-same : (test : Vertex → Bool) (vs : List Vertex) (k : ℕ) (d : Vertex) → k < length vs → test (get_or vs k d) ≡ false → places_up_to test vs k
+    ≡ places_up_to test vs (k + 1)
 up_to-same test vs k d h p =
-    places-same (λ x. nat_lt x k && test (or_vertex (slice_get vs x))) (λ x. nat_lt x (k + 1) && test (or_vertex (slice_get vs x))) (λ x l. rw (next-below x k) (each x (x == k) refl (nat_lt x k)))
+    places-same (λ x. nat_lt x k && test (or_vertex (slice_get vs x))) (λ x. nat_lt x (k + 1) && test (or_vertex (slice_get vs x)))
+    (λ x l. rw (next-below x k) (each x (x == k) refl (nat_lt x k)))
   where
     fails : test (or_vertex (slice_get vs k)) ≡ false
     fails = ap test (vertex-there vs k d h) ∙ p
@@ -92,14 +96,16 @@ filter-twice : (f g : ℕ → Bool) (xs : List ℕ) → filter f (filter g xs) �
 filter-twice f g [] = refl
 filter-twice f g (x ∷ xs) = go (g x) refl (f x) refl (filter-twice f g xs)
   where
-    go : (s : Bool) → g x ≡ s → (t : Bool) → f x ≡ t → filter f (filter g xs) ≡ filter (λ y. f y && g y) xs → filter f (filter g (x ∷ xs)) ≡ filter (λ y. f y && g y) (x ∷ xs)
+    go : (s : Bool) → g x ≡ s → (t : Bool) → f x ≡ t → filter f (filter g xs) ≡ filter (λ y. f y && g y) xs → filter f (filter g (x ∷ xs)) ≡ filter
+        (λ y. f y && g y) (x ∷ xs)
     go true p true q i = rw (p, q) (ap (λ ys. x ∷ ys) i)
     go true p false q i = rw (p, q) i
     go false p true q i = rw (p, q) i
     go false p false q i = rw (p, q) i
 
 -- tests that agree below n keep the same numbers below n, and a test that fails from n on keeps no others
-filter-within : (f g : ℕ → Bool) (n : ℕ) → ((x : ℕ) → x < n → f x ≡ g x) → ((x : ℕ) → n ≤ x → g x ≡ false) → (m : ℕ) → n ≤ m → filter f (below n) ≡ filter g (below m)
+filter-within : (f g : ℕ → Bool) (n : ℕ) → ((x : ℕ) → x < n → f x ≡ g x) → ((x : ℕ) → n ≤ x → g x ≡ false) → (m : ℕ) → n ≤ m → filter f (below n)
+    ≡ filter g (below m)
 filter-within f g n same none zero h = ap (filter f) (ap below (let e : n ≡ 0 = omega arith in e))
 filter-within f g n same none (suc m) h = go (cases n m) (filter-within f g n same none m)
   where
@@ -151,7 +157,12 @@ kept-places f test vs few =
 
     inside : (x : ℕ) → x < length vs → (has (places_where f) x && has (places_that test vs) x) ≡ (f x && test (or_vertex (slice_get vs x)))
     inside x l =
-        rw (has-where f x (omega arith), has-where (λ x. nat_lt x (length vs) && test (or_vertex (slice_get vs x))) x (omega arith), below-test x (length vs) l) refl
+        rw (
+          has-where f x (omega arith),
+          has-where (λ x. nat_lt x (length vs) && test (or_vertex (slice_get vs x))) x (omega arith),
+          below-test x
+              (length vs) l,
+        ) refl
 
     beyond : (x : ℕ) → length vs ≤ x → (has (places_where f) x && has (places_that test vs) x) ≡ false
     beyond x l = rw (none (cases x)) (neither (has (places_where f) x))
@@ -193,7 +204,8 @@ pub depends-end : (b : BlockGraph) (vs : List Vertex) (es : Edges) (k : ℕ) (se
     → news ≡ map (λ set. met set ins) sets → news ≡ map (dependences b) (places b)
 depends-end b vs es k sets news ins p q few z before i after =
     let first : drop k es ≡ b.edges = ap (λ n. drop n es) z ∙ q in
-    let all : sets ≡ map (reaching b.edges) (below (length b.vertices)) = before ∙ ap₂ (λ (fs : Edges) (ws : List Vertex). map (reaching fs) (below (length ws))) first p in
+    let all : sets ≡ map (reaching b.edges) (below (length b.vertices)) = before ∙ ap₂ (λ (fs : Edges) (ws : List Vertex). map (reaching fs)
+    (below (length ws))) first p in
     let kept : ins ≡ places_that (λ v. v.inlet) b.vertices = i ∙ ap (λ (ws : List Vertex). places_that (λ v. v.inlet) ws) p in
     after ∙ (ap (λ (os : List ℕ). map (λ (set : List ℕ). met set os) sets) kept ∙ kept-dependences b sets few all)
 
@@ -203,6 +215,7 @@ pub demands-end : (b : BlockGraph) (vs : List Vertex) (es : Edges) (k : ℕ) (se
     → news ≡ map (λ set. met set outs) sets → news ≡ map (demands b) (places b)
 demands-end b vs es k sets news outs p q few z before i after =
     let first : drop k es ≡ b.edges = ap (λ n. drop n es) z ∙ q in
-    let all : sets ≡ map (reached b.edges) (below (length b.vertices)) = before ∙ ap₂ (λ (fs : Edges) (ws : List Vertex). map (reached fs) (below (length ws))) first p in
+    let all : sets ≡ map (reached b.edges) (below (length b.vertices)) = before ∙ ap₂ (λ (fs : Edges) (ws : List Vertex). map (reached fs)
+    (below (length ws))) first p in
     let kept : outs ≡ places_that (λ v. v.outlet) b.vertices = i ∙ ap (λ (ws : List Vertex). places_that (λ v. v.outlet) ws) p in
     after ∙ (ap (λ (os : List ℕ). map (λ (set : List ℕ). met set os) sets) kept ∙ kept-demands b sets few all)

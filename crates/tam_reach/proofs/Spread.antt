@@ -1,11 +1,12 @@
 -- What reaches and what is reached, one edge after another: an edge more spreads the sets.
-use Rattle.std.proofs.Common.{◌≡◌, ℕ, zero, suc, ◌+◌, ◌<◌, ◌≤◌, Bool, true, false, ◌&&◌, ◌||◌, ◌==◌, nat_lt, List, [], ◌∷◌, ◌++◌, map, drop, get_or, length, refl, sym, ap, ap₂, subst, ◌∙◌, arith, add-one, inl, inr, ◌⊎◌, tests}
+use Rattle.std.proofs.Common.{◌≡◌, ℕ, zero, suc, ◌+◌, ◌<◌, ◌≤◌, Bool, true, false, ◌&&◌, ◌||◌, ◌==◌, nat_lt, List, [], ◌∷◌, ◌++◌, map, drop, get_or}
+use Rattle.std.proofs.Common.{length, refl, sym, ap, ap₂, subst, ◌∙◌, arith, add-one, inl, inr, ◌⊎◌, tests}
 use Rattle.std.proofs.lemmas.List.{drop_more, map-append, drop_all}
-use Rattle.tam_word.specs.Lists.{below, all_of, has}
+use Rattle.tam_word.specs.Lists.{below, has}
 use Rattle.tam_word.proofs.Tests.{both-true, test-below}
 use Rattle.tam_word.proofs.Members.{In, all-in, in-below}
 use Rattle.tam_graph.specs.Edges.{Edges, reaches}
-use Rattle.tam_sets.specs.Sets.{places_where, joined}
+use Rattle.tam_sets.specs.Sets.{places_where}
 use Rattle.tam_sets.proofs.PlacesWhere.{places-same, has-where}
 use Rattle.tam_split.specs.declared.vertex.Vertex.{Vertex}
 use Rattle.tam_split.specs.Blocks.{BlockGraph}
@@ -79,7 +80,8 @@ reached es x = places_where (λ y. reaches es x y)
 spread-reaching : (e : ℕ × ℕ) (es : Edges) (y : ℕ) → e.1 < 128 → spread_into e.1 (reaching es e.0) (reaching es y) ≡ reaching (e ∷ es) y
 spread-reaching e es y l = go (reaches es e.1 y) refl
   where
-    each : (x : ℕ) (s t : Bool) → reaches es x y ≡ s → reaches es x e.0 ≡ t → reaches es e.1 y ≡ true → (reaches es x y || reaches es x e.0) ≡ reaches (e ∷ es) x y
+    each : (x : ℕ) (s t : Bool) → reaches es x y ≡ s → reaches es x e.0 ≡ t → reaches es e.1 y ≡ true → (reaches es x y || reaches es x e.0) ≡ reaches
+        (e ∷ es) x y
     each x true t p q r = rw p refl
     each x false true p q r = rw (p, q, r) refl
     each x false false p q r = rw (p, q) refl
@@ -122,7 +124,8 @@ spread-reached e es x l = go (reaches es x e.0) refl
 -- ---- of all places
 
 -- each edge of a block runs between its places
-pub edge-inside : (b : BlockGraph) → IsBlockGraph b → (k : ℕ) (d : ℕ × ℕ) → k < length b.edges → ((get_or b.edges k d).0 < length b.vertices) × ((get_or b.edges k d).1 < length b.vertices)
+pub edge-inside : (b : BlockGraph) → IsBlockGraph b → (k : ℕ) (d : ℕ × ℕ) → k < length b.edges → ((get_or b.edges k d).0 < length b.vertices) ×
+    ((get_or b.edges k d).1 < length b.vertices)
 edge-inside b block k d h =
     let e = get_or b.edges k d in
     let t = all-in (λ (f : ℕ × ℕ). nat_lt f.0 (length b.vertices) && nat_lt f.1 (length b.vertices)) b.edges block.within e (there b.edges k h) in
@@ -139,7 +142,8 @@ pub edge-read : (b : BlockGraph) → IsBlockGraph b → (vs : List Vertex) (es :
     → ((get_or es k d).0 < length vs) × ((get_or es k d).1 < length vs)
 edge-read b block vs es p q k d h =
     let in_es : ((get_or es k d).0 < length b.vertices) × ((get_or es k d).1 < length b.vertices) =
-    subst (λ (fs : Edges). k < length fs → ((get_or fs k d).0 < length b.vertices) × ((get_or fs k d).1 < length b.vertices)) (sym q) (edge-inside b block k d) h in
+    subst (λ (fs : Edges). k < length fs → ((get_or fs k d).0 < length b.vertices) × ((get_or fs k d).1 < length b.vertices)) (sym q)
+    (edge-inside b block k d) h in
     subst (λ (ws : List Vertex). ((get_or es k d).0 < length ws) × ((get_or es k d).1 < length ws)) (sym p) in_es
 
 -- the edge at a place, before those behind it

@@ -1,6 +1,6 @@
 -- The places that pass a test: which they are, and when two tests give the same.
 use Rattle.std.proofs.Common.{◌≡◌, ℕ, ◌<◌, Bool, true, false, List, [], ◌∷◌, filter, refl, sym, ap, subst, ◌∙◌, inl, inr, true≢false}
-use Rattle.tam_word.specs.Lists.{below, has}
+use Rattle.tam_word.specs.Lists.{has}
 use Rattle.tam_word.proofs.Members.{In, filter-in, in-filter, below-in, in-below, in-has, not-has}
 use Rattle.tam_sets.specs.declared.set.TheConstants.{PLACES}
 use Rattle.tam_sets.specs.Sets.{place_numbers, places_where}

@@ -1,11 +1,13 @@
 -- What the operations on bits do to the places of a set.
-use Rattle.std.proofs.Common.{◌≡◌, ◌≢◌, ℕ, zero, suc, ◌+◌, ◌-◌, ◌*◌, ◌/◌, ◌%◌, ◌^◌, ◌<◌, ◌≤◌, Bool, true, false, cond, ◌&&◌, ◌||◌, ◌==◌, nat_lt, List, [], ◌∷◌, ◌++◌, filter, refl, sym, ap, ap₂, subst, ◌∙◌, inl, inr, true≢false}
-use Rattle.std.proofs.Common.{arith, min, max, tests, bit_and, bit_or, ◌⊎◌}
+use Rattle.std.proofs.Common.{◌≡◌, ◌≢◌, ℕ, zero, suc, ◌-◌, ◌*◌, ◌/◌, ◌%◌, ◌^◌, ◌<◌, ◌≤◌, Bool, true, false, ◌&&◌, ◌||◌, ◌==◌}
+use Rattle.std.proofs.Common.{[], refl, sym, ap, subst, ◌∙◌, inl, inr, true≢false}
+use Rattle.std.proofs.Common.{arith, min, max, bit_and, bit_or, ◌⊎◌}
 use Rattle.std.specs.Int.{bit_at, bit_not, w128}
-use Rattle.std.proofs.lemmas.Nat.Bits.{bit_at-lt, bit_at_and, bit_at_or, bit_at-zero, bit_at_not, bit_at_above, bit_at_set_same, bit_at_set_other, shr_and_one, same_from_bits}
-use Rattle.tam_word.specs.Lists.{below, all_of, has}
-use Rattle.tam_word.proofs.Tests.{eq-number, number-eq, differs-number, number-differs, self-eq}
-use Rattle.tam_word.proofs.Members.{In, in-all, all-in, in-has, has-in}
+use Rattle.std.proofs.lemmas.Nat.Bits.{bit_at-lt, bit_at_and, bit_at_or, bit_at-zero, bit_at_not, bit_at_above, bit_at_set_same, bit_at_set_other}
+use Rattle.std.proofs.lemmas.Nat.Bits.{shr_and_one, same_from_bits}
+use Rattle.tam_word.specs.Lists.{has}
+use Rattle.tam_word.proofs.Tests.{eq-number, number-eq, differs-number, number-differs}
+use Rattle.tam_word.proofs.Members.{In, in-all, all-in}
 use Rattle.tam_sets.specs.declared.set.TheConstants.{PLACES}
 use Rattle.tam_sets.specs.Sets.{places_where, with_place, met, joined, is_within}
 use Rattle.tam_sets.specs.Bits.{has_bit}
@@ -55,7 +57,8 @@ bits-joined a b =
 -- one bit more
 pub bits-with : (n k : ℕ) → k < PLACES → places_where (has_bit (bit_or n (1 * 2 ^ k % 2 ^ PLACES))) ≡ with_place k (places_where (has_bit n))
 bits-with n k l =
-    places-same (has_bit (bit_or n (1 * 2 ^ k % 2 ^ PLACES))) (λ x. has (places_where (has_bit n)) x || (x == k)) (λ x m. rw (has-bit n x m) (at x (x == k) refl))
+    places-same (has_bit (bit_or n (1 * 2 ^ k % 2 ^ PLACES))) (λ x. has (places_where (has_bit n)) x || (x == k))
+    (λ x m. rw (has-bit n x m) (at x (x == k) refl))
   where
     at : (x : ℕ) (t : Bool) → (x == k) ≡ t → has_bit (bit_or n (1 * 2 ^ k % 2 ^ PLACES)) x ≡ (has_bit n x || (x == k))
     at x true p =
@@ -84,7 +87,8 @@ bit-read n x = ap (λ m. m == 1) (shr_and_one n x)
 -- no bit of the first is missing in the second
 within-bit : (a b x : ℕ) → b < 2 ^ PLACES → x < PLACES → bit_and a (bit_not w128 b) ≡ 0 → has_bit a x ≡ true → has_bit b x ≡ true
 within-bit a b x h l e p =
-    let none : min (bit_at a x) (1 - bit_at b x) ≡ 0 = ap (λ y. min (bit_at a x) y) (sym (bit_at_not w128 b x h l)) ∙ (sym (bit_at_and a (bit_not w128 b) x) ∙ (ap (λ n. bit_at n x) e ∙ bit_at-zero x)) in
+    let none : min (bit_at a x) (1 - bit_at b x) ≡ 0 = ap (λ y. min (bit_at a x) y) (sym (bit_at_not w128 b x h l)) ∙
+    (sym (bit_at_and a (bit_not w128 b) x) ∙ (ap (λ n. bit_at n x) e ∙ bit_at-zero x)) in
     let one : bit_at a x ≡ 1 = number-eq (bit_at a x) 1 p in
     let small : bit_at b x < 2 = bit_at-lt b x in
     eq-number (bit_at b x) 1 (omega arith)
@@ -96,7 +100,8 @@ bits-within a b h e =
     (λ x i. let l : x < PLACES = in-where (has_bit a) x i in has-bit b x l ∙ within-bit a b x h l e (in-passes (has_bit a) x i))
 
 -- and the other way round
-pub within-bits : (a b : ℕ) → a < 2 ^ PLACES → b < 2 ^ PLACES → is_within (places_where (has_bit a)) (places_where (has_bit b)) ≡ true → bit_and a (bit_not w128 b) ≡ 0
+pub within-bits : (a b : ℕ) → a < 2 ^ PLACES → b < 2 ^ PLACES → is_within (places_where (has_bit a)) (places_where (has_bit b)) ≡ true → bit_and a
+    (bit_not w128 b) ≡ 0
 within-bits a b g h w = same_from_bits (bit_and a (bit_not w128 b)) 0 (λ x. bit_at_and a (bit_not w128 b) x ∙ (none x (cases x) ∙ sym (bit_at-zero x)))
   where
     cases : (x : ℕ) → (x < PLACES) ⊎ (PLACES ≤ x)
@@ -115,9 +120,11 @@ within-bits a b g h w = same_from_bits (bit_and a (bit_not w128 b)) 0 (λ x. bit
             let n : bit_at (bit_not w128 b) x ≡ 1 - bit_at b x = bit_at_not w128 b x h l in omega arith
 
 -- the test of the code is that of the definition
-pub within-test : (a b : ℕ) → a < 2 ^ PLACES → b < 2 ^ PLACES → (bit_and a (bit_not w128 b) == 0) ≡ is_within (places_where (has_bit a)) (places_where (has_bit b))
+pub within-test : (a b : ℕ) → a < 2 ^ PLACES → b < 2 ^ PLACES → (bit_and a (bit_not w128 b) == 0) ≡ is_within (places_where (has_bit a))
+    (places_where (has_bit b))
 within-test a b g h = go (is_within (places_where (has_bit a)) (places_where (has_bit b))) refl
   where
-    go : (t : Bool) → is_within (places_where (has_bit a)) (places_where (has_bit b)) ≡ t → (bit_and a (bit_not w128 b) == 0) ≡ is_within (places_where (has_bit a)) (places_where (has_bit b))
+    go : (t : Bool) → is_within (places_where (has_bit a)) (places_where (has_bit b)) ≡ t → (bit_and a (bit_not w128 b) == 0) ≡ is_within
+        (places_where (has_bit a)) (places_where (has_bit b))
     go true p = eq-number (bit_and a (bit_not w128 b)) 0 (within-bits a b g h p) ∙ sym p
     go false p = differs-number (bit_and a (bit_not w128 b)) 0 (λ e. true≢false (sym (bits-within a b h e) ∙ p)) ∙ sym p

@@ -1,9 +1,10 @@
 -- Classes one behind the other in one list: where each begins and ends, and what is cut out again.
-use Rattle.std.proofs.Common.{◌≡◌, ℕ, zero, suc, ◌+◌, ◌-◌, ◌<◌, ◌≤◌, List, [], ◌∷◌, ◌++◌, refl, sym, ap, ap₂, subst, ◌∙◌, arith, length, map, take, drop, get_or}
+use Rattle.std.proofs.Common.{◌≡◌, ℕ, zero, suc, ◌+◌, ◌-◌, ◌<◌, List, [], ◌∷◌, ◌++◌, refl, sym, ap, ap₂, subst, ◌∙◌, arith, length, map, take}
+use Rattle.std.proofs.Common.{drop, get_or}
 use Rattle.std.proofs.Common.{append_assoc, length-append}
 use Rattle.std.specs.List.{concat}
 use Rattle.std.specs.Prelude.{slice_range}
-use Rattle.std.proofs.lemmas.List.{take_at, drop_at, drop-drop, append-nil}
+use Rattle.std.proofs.lemmas.List.{take_at, drop_at}
 use Rattle.tam_split.specs.Partitions.{Parts}
 use Rattle.tam_split.specs.KeptParts.{cut_from, ends_from}
 
@@ -48,7 +49,8 @@ length-cut n places (e ∷ ends) = ap suc (length-cut e places ends)
 pub ends-append : (n : ℕ) (ps qs : Parts) → ends_from n (ps ++ qs) ≡ ends_from n ps ++ ends_from (n + length (concat ps)) qs
 ends-append n [] qs = ap (λ m. ends_from m qs) (let e : n ≡ n + 0 = omega arith in e)
 ends-append n (p ∷ ps) qs =
-    let i : ends_from (n + length p) (ps ++ qs) ≡ ends_from (n + length p) ps ++ ends_from (n + length p + length (concat ps)) qs = ends-append (n + length p) ps qs in
+    let i : ends_from (n + length p) (ps ++ qs) ≡ ends_from (n + length p) ps ++ ends_from (n + length p + length (concat ps)) qs = ends-append
+    (n + length p) ps qs in
     let m : n + length p + length (concat ps) ≡ n + length (p ++ concat ps) = omega (arith, length-append p (concat ps)) in
     ap (λ es. (n + length p) ∷ es) (i ∙ ap (λ k. ends_from (n + length p) ps ++ ends_from k qs) m)
 
@@ -56,7 +58,8 @@ ends-append n (p ∷ ps) qs =
 pub start-behind : (n : ℕ) (ps qs : Parts) → get_or (n ∷ ends_from n (ps ++ qs)) (length ps) 0 ≡ n + length (concat ps)
 start-behind n [] qs = let e : n ≡ n + 0 = omega arith in e
 start-behind n (p ∷ ps) qs =
-    let i : get_or ((n + length p) ∷ ends_from (n + length p) (ps ++ qs)) (length ps) 0 ≡ n + length p + length (concat ps) = start-behind (n + length p) ps qs in
+    let i : get_or ((n + length p) ∷ ends_from (n + length p) (ps ++ qs)) (length ps) 0 ≡ n + length p + length (concat ps) = start-behind
+    (n + length p) ps qs in
     let m : n + length p + length (concat ps) ≡ n + length (p ++ concat ps) = omega (arith, length-append p (concat ps)) in i ∙ m
 
 -- where it ends

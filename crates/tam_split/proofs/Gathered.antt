@@ -1,5 +1,6 @@
 -- Vertices and edges gathered one after another.
-use Rattle.std.proofs.Common.{◌≡◌, ℕ, zero, suc, ◌+◌, ◌<◌, ◌≤◌, Bool, true, false, cond, ◌==◌, List, [], ◌∷◌, ◌++◌, refl, sym, ap, ap₂, subst, ◌∙◌, arith, length, map, filter, flat_map, take, get_or, slice_get, Some}
+use Rattle.std.proofs.Common.{◌≡◌, ℕ, zero, suc, ◌+◌, ◌<◌, Bool, true, false, cond, ◌==◌, List, [], ◌∷◌, ◌++◌, refl, sym, ap, ap₂, ◌∙◌}
+use Rattle.std.proofs.Common.{arith, length, map, filter, flat_map, take, get_or, slice_get, Some}
 use Rattle.std.proofs.Common.{add-one, append_assoc}
 use Rattle.std.proofs.lemmas.List.{map-append, append-nil, take_more, length-take}
 use Rattle.std.proofs.lemmas.List.Concat.{flat_map-append}
@@ -9,7 +10,7 @@ use Rattle.tam_word.proofs.Tests.{eq-number, differs-number}
 use Rattle.tam_graph.specs.declared.node.Node.{Node}
 use Rattle.tam_graph.specs.Graphs.{Code, or_kind, or_block, kind_at, block_at}
 use Rattle.tam_split.specs.declared.vertex.Vertex.{Vertex}
-use Rattle.tam_split.specs.Blocks.{vertices_of, vertices_in, feeds, edges_from, edges_among}
+use Rattle.tam_split.specs.Blocks.{vertices_of, feeds, edges_from}
 use Rattle.tam_graph.specs.Edges.{Edges}
 
 -- ---- vertices
@@ -24,7 +25,8 @@ vertices-next : (c : Code) (b n : ℕ) (t : Bool) → (block_at c n == b) ≡ t
 vertices-next c b n t e =
     let one : filter (λ x. block_at c x == b) (n ∷ []) ≡ cond t (n ∷ []) [] = ap (λ s. cond s (n ∷ []) []) e in
     ap (vertices_up_to c b) (add-one n)
-    ∙ (ap (flat_map (λ x. vertices_of x (kind_at c x))) (filter-append (λ x. block_at c x == b) (below n) (n ∷ []) ∙ ap (λ xs. filter (λ x. block_at c x == b) (below n) ++ xs) one)
+    ∙ (ap (flat_map (λ x. vertices_of x (kind_at c x))) (filter-append (λ x. block_at c x == b) (below n) (n ∷ []) ∙ ap
+    (λ xs. filter (λ x. block_at c x == b) (below n) ++ xs) one)
     ∙ flat_map-append (λ x. vertices_of x (kind_at c x)) (filter (λ x. block_at c x == b) (below n)) (cond t (n ∷ []) []))
 
 -- a node of the block adds its vertices
@@ -60,13 +62,16 @@ step-same c b n vs line there other before = before ∙ sym (vertices-same c b n
 placed-append : {X : Type 0} (n : ℕ) (xs ys : List X) → placed_from n (xs ++ ys) ≡ placed_from n xs ++ placed_from (n + length xs) ys
 placed-append n [] ys = ap (λ m. placed_from m ys) (let e : n ≡ n + 0 = omega arith in e)
 placed-append n (x ∷ xs) ys =
-    ap (λ rs. (n, x) ∷ rs) (placed-append (n + 1) xs ys ∙ ap (λ m. placed_from (n + 1) xs ++ placed_from m ys) (let e : n + 1 + length xs ≡ n + suc (length xs) = omega arith in e))
+    ap (λ rs. (n, x) ∷ rs) (placed-append (n + 1) xs ys ∙ ap (λ m. placed_from (n + 1) xs ++ placed_from m ys)
+    (let e : n + 1 + length xs ≡ n + suc (length xs) = omega arith in e))
 
 -- of the first n + 1 elements
-pub placed-more : {X : Type 0} (xs : List X) (n : ℕ) (d : X) → n < length xs → placed_from 0 (take (n + 1) xs) ≡ placed_from 0 (take n xs) ++ (n, get_or xs n d) ∷ []
+pub placed-more : {X : Type 0} (xs : List X) (n : ℕ) (d : X) → n < length xs → placed_from 0 (take (n + 1) xs) ≡ placed_from 0 (take n xs) ++
+    (n, get_or xs n d) ∷ []
 placed-more xs n d h =
     let long : 0 + length (take n xs) ≡ n = omega (arith, length-take n xs) in
-    ap (placed_from 0) (take_more xs n d h) ∙ (placed-append 0 (take n xs) (get_or xs n d ∷ []) ∙ ap (λ m. placed_from 0 (take n xs) ++ (m, get_or xs n d) ∷ []) long)
+    ap (placed_from 0) (take_more xs n d h) ∙ (placed-append 0 (take n xs) (get_or xs n d ∷ []) ∙ ap
+    (λ m. placed_from 0 (take n xs) ++ (m, get_or xs n d) ∷ []) long)
 
 -- the edges from a vertex to the first n
 abbrev pub edges_up_to : Code → List Vertex → ℕ × Vertex → ℕ → Edges
@@ -83,7 +88,8 @@ edges-next c vs u n d h t e =
     ∙ (ap (map g) (filter-append f (placed_from 0 (take n vs)) ((n, get_or vs n d) ∷ []))
     ∙ (map-append g (filter f (placed_from 0 (take n vs))) (filter f ((n, get_or vs n d) ∷ [])) ∙ ap (λ rs. edges_up_to c vs u n ++ rs) one))
   where
-    last : (s : Bool) → feeds c u.1 (get_or vs n d) ≡ s → map {B = ℕ × ℕ} (λ (v : ℕ × Vertex). (u.0, v.0)) (filter (λ (v : ℕ × Vertex). feeds c u.1 v.1) ((n, get_or vs n d) ∷ [])) ≡ cond s ((u.0, n) ∷ []) []
+    last : (s : Bool) → feeds c u.1 (get_or vs n d) ≡ s → map {B = ℕ × ℕ} (λ (v : ℕ × Vertex). (u.0, v.0))
+        (filter (λ (v : ℕ × Vertex). feeds c u.1 v.1) ((n, get_or vs n d) ∷ [])) ≡ cond s ((u.0, n) ∷ []) []
     last true p = rw p refl
     last false p = rw p refl
 
@@ -113,7 +119,8 @@ first-more c vs n d h =
 pub step-edge : (c : Code) (vs : List Vertex) (u : ℕ × Vertex) (n : ℕ) (d : Vertex) (olds es fs : Edges) → n < length vs → feeds c u.1 (get_or vs n d) ≡ true
     → es ≡ olds ++ edges_up_to c vs u n → fs ≡ es ++ (u.0, n) ∷ [] → fs ≡ olds ++ edges_up_to c vs u (n + 1)
 step-edge c vs u n d olds es fs h e before after =
-    after ∙ (ap (λ l. l ++ (u.0, n) ∷ []) before ∙ (append_assoc olds (edges_up_to c vs u n) ((u.0, n) ∷ []) ∙ ap (λ l. olds ++ l) (sym (edges-more c vs u n d h e))))
+    after ∙ (ap (λ l. l ++ (u.0, n) ∷ []) before ∙ (append_assoc olds (edges_up_to c vs u n) ((u.0, n) ∷ []) ∙ ap (λ l. olds ++ l)
+    (sym (edges-more c vs u n d h e))))
 
 -- a step at another vertex
 pub step-none : (c : Code) (vs : List Vertex) (u : ℕ × Vertex) (n : ℕ) (d : Vertex) (olds es : Edges) → n < length vs → feeds c u.1 (get_or vs n d) ≡ false

@@ -1,10 +1,10 @@
 -- The least places of classes, rising: what is taken out of a rising list, and what the first of two merged classes begins with.
-use Rattle.std.proofs.Common.{◌≡◌, ℕ, zero, suc, ◌<◌, ◌≤◌, Bool, true, nat_lt, List, [], ◌∷◌, ◌++◌, refl, sym, ap, subst, ◌∙◌, arith, inl, inr, ◌⊎◌, length, map, true≢false}
+use Rattle.std.proofs.Common.{◌≡◌, ℕ, ◌<◌, true, List, [], ◌∷◌, ◌++◌, refl, sym, ap, subst, ◌∙◌, arith, inl, inr, ◌⊎◌}
+use Rattle.std.proofs.Common.{length, map}
 use Rattle.std.proofs.Common.{append_assoc}
 use Rattle.std.specs.Prelude.{slice_index}
 use Rattle.std.proofs.lemmas.List.{map-append}
 use Rattle.tam_word.specs.Lists.{merge_rising}
-use Rattle.tam_word.proofs.Tests.{test-below}
 use Rattle.tam_word.proofs.Members.{In, in-append, left-in, right-in}
 use Rattle.tam_split.specs.Partitions.{Parts}
 use Rattle.tam_split.specs.KeptParts.{is_rising}
@@ -46,7 +46,8 @@ least-merged ps p ms q qs u v a b h =
     let low : least p < least q = rising-behind (map least ps) (least p) (map least ms ++ least q ∷ map least qs) rises (least q)
     (right-in (least q) (map least ms) (least q ∷ map least qs) (inl refl)) in
     let same : least (merge_rising p q) ≡ least p = merged-least p q u v a b low in
-    let left : is_rising (map least ps ++ least p ∷ (map least ms ++ map least qs)) ≡ true = without (map least ps) (least p) (map least ms) (least q) (map least qs) rises in
+    let left : is_rising (map least ps ++ least p ∷ (map least ms ++ map least qs)) ≡ true = without (map least ps) (least p) (map least ms) (least q)
+    (map least qs) rises in
     let back : map least ps ++ least p ∷ (map least ms ++ map least qs) ≡ map least (ps ++ merge_rising p q ∷ (ms ++ qs)) =
     ap (λ w. map least ps ++ w ∷ (map least ms ++ map least qs)) (sym same)
     ∙ (ap (λ xs. map least ps ++ least (merge_rising p q) ∷ xs) (sym (map-append least ms qs)) ∙ sym (map-append least ps (merge_rising p q ∷ (ms ++ qs)))) in

@@ -1,14 +1,15 @@
 -- Two classes merged: what it does to the classes, and to the list in which they are stored.
-use Rattle.std.proofs.Common.{◌≡◌, ℕ, zero, suc, ◌+◌, ◌-◌, ◌<◌, ◌≤◌, Bool, true, ◌&&◌, nat_lt, List, [], ◌∷◌, ◌++◌, refl, sym, ap, ap₂, subst, ◌∙◌, arith, inl, inr, ◌⊎◌, length, map}
-use Rattle.std.proofs.Common.{append_assoc, length-append, slice_get, Some, get_or, slice_index}
+use Rattle.std.proofs.Common.{◌≡◌, ℕ, suc, ◌+◌, ◌<◌, Bool, true, nat_lt, List, [], ◌∷◌, ◌++◌, refl, sym, ap, subst, ◌∙◌}
+use Rattle.std.proofs.Common.{arith, inl, inr, ◌⊎◌, length}
+use Rattle.std.proofs.Common.{append_assoc, length-append}
 use Rattle.std.specs.List.{concat}
 use Rattle.tam_word.specs.Lists.{all_of, has, merge_rising, without_place, changed_at}
-use Rattle.tam_word.proofs.Tests.{both-true, true-both, below-test, test-below}
-use Rattle.tam_word.proofs.Members.{In, in-has, has-in, all-in, in-all, in-merge, left-in, right-in, in-append}
-use Rattle.tam_split.specs.Partitions.{Parts, class_of, class_at, or_empty, merged}
-use Rattle.tam_split.specs.KeptParts.{is_rising, HaveEach, AreClasses, ends_from}
-use Rattle.tam_split.proofs.Classes.{Stands, stands-in, in-class_at, IsParts, merged-parts}
-use Rattle.tam_split.proofs.Rising.{head-below, tail-rising, rising-cons, merge-rising, merge-least, length-merge}
+use Rattle.tam_word.proofs.Tests.{below-test, test-below}
+use Rattle.tam_word.proofs.Members.{In, in-has, has-in, all-in, in-all, left-in, right-in, in-append}
+use Rattle.tam_split.specs.Partitions.{Parts, class_at, merged}
+use Rattle.tam_split.specs.KeptParts.{is_rising, HaveEach, AreClasses}
+use Rattle.tam_split.proofs.Classes.{stands-in, in-class_at, IsParts, merged-parts}
+use Rattle.tam_split.proofs.Rising.{merge-rising, length-merge}
 use Rattle.tam_split.proofs.Flat.{concat-append}
 use Rattle.tam_split.proofs.LeastPlaces.{least-merged}
 
@@ -74,7 +75,8 @@ module _ (ps : Parts) (p : List ℕ) (ms : Parts) (q : List ℕ) (qs : Parts) wh
   -- the later class
   pub class_at-later : class_at apart later ≡ q
   class_at-later =
-      subst (λ n. class_at apart n ≡ q) (length-front p) (subst (λ rs. class_at rs (length (ps ++ p ∷ ms)) ≡ q) (sym (front p)) (class_at-behind (ps ++ p ∷ ms) q qs))
+      subst (λ n. class_at apart n ≡ q) (length-front p) (subst (λ rs. class_at rs (length (ps ++ p ∷ ms)) ≡ q) (sym (front p))
+      (class_at-behind (ps ++ p ∷ ms) q qs))
 
   -- what the merge leaves
   pub merged-is : merged apart (length ps) later ≡ united
@@ -176,7 +178,8 @@ module _ (ps : Parts) (p : List ℕ) (ms : Parts) (q : List ℕ) (qs : Parts) wh
         let n = length (concat apart) in
         let long : length apart ≡ length ps + suc (length ms + suc (length qs)) =
         omega (arith, length-append ps (p ∷ (ms ++ q ∷ qs)), length-append ms (q ∷ qs)) in
-        let after : IsParts n (merged apart (length ps) later) = merged-parts n apart (each-parts n apart kept.each_once) (length ps) later (omega arith) (omega arith) in
+        let after : IsParts n (merged apart (length ps) later) = merged-parts n apart (each-parts n apart kept.each_once) (length ps) later (omega arith)
+        (omega arith) in
         let each : HaveEach n united = parts-each n united (subst (λ rs. IsParts n rs) merged-is after) in
         subst (λ m. HaveEach m united) (sym length-united) each
 

@@ -1,12 +1,13 @@
 -- Rising lists of numbers: two of them merged rise again, and are what a sort makes of them.
-use Rattle.std.proofs.Common.{◌≡◌, ℕ, zero, suc, ◌+◌, ◌<◌, ◌≤◌, Bool, true, false, cond, ◌&&◌, ◌==◌, nat_lt, List, [], ◌∷◌, ◌++◌, refl, sym, ap, subst, ◌∙◌, inl, inr, ◌⊎◌}
-use Rattle.std.proofs.Common.{true≢false, arith, length, sum_by, get_or}
+use Rattle.std.proofs.Common.{◌≡◌, ℕ, suc, ◌+◌, ◌<◌, ◌≤◌, Bool, true, false, cond, ◌==◌, nat_lt, List, [], ◌∷◌, ◌++◌, refl, sym, ap}
+use Rattle.std.proofs.Common.{subst, ◌∙◌, inl, inr, ◌⊎◌}
+use Rattle.std.proofs.Common.{arith, length, sum_by, get_or}
 use Rattle.std.specs.List.Sorted.{IsPermutation, IsNonDecreasingBy}
 use Rattle.std.proofs.lemmas.List.Sorted.{sum_by-IsPermutation}
 use Rattle.std.proofs.lemmas.List.Sums.{sum_by-cons, sum_by-append}
 use Rattle.tam_word.specs.Lists.{all_of, insert_rising, merge_rising}
-use Rattle.tam_word.proofs.Tests.{both-true, true-both, below-test, test-below, number-eq, eq-number, differs-number}
-use Rattle.tam_word.proofs.Members.{In, all-in, in-all, merge-in, in-merge}
+use Rattle.tam_word.proofs.Tests.{both-true, true-both, below-test, test-below, number-eq, eq-number}
+use Rattle.tam_word.proofs.Members.{In, all-in, in-all, in-merge}
 use Rattle.tam_split.specs.KeptParts.{is_rising}
 
 -- ---- rising lists
@@ -37,7 +38,11 @@ insert-rising n (y ∷ ys) h d = go (nat_lt n y) refl (insert-rising n ys (tail-
     go : (t : Bool) → nat_lt n y ≡ t → is_rising (insert_rising n ys) ≡ true → is_rising (insert_rising n (y ∷ ys)) ≡ true
     go true p i =
         let l : n < y = test-below n y p in
-        rw (insert_rising, p) (rising-cons n (y ∷ ys) (λ z j. elim j [ inl e ↦ subst (λ w. n < w) e l | inr k ↦ (let m : y < z = head-below y ys h z k in omega arith) ]) h)
+        rw (insert_rising, p) (rising-cons n (y ∷ ys) (λ z j. elim j [
+          | inl e ↦ subst (λ w. n < w) e l
+          | inr k ↦
+              (let m : y < z = head-below y ys h z k in omega arith)
+        ]) h)
     go false p i =
         let ne : y ≡ n → ⊥ = λ e. d (inl e) in
         let l : y < n = lower ne in
@@ -85,7 +90,11 @@ rising-ascends (x ∷ xs) h = (λ y i. (let l : x < y = head-below x xs h y i in
 -- what the index says of a list that is sorted
 pub sorted-ascends : (xs : List ℕ) → IsNonDecreasingBy (λ x. x) xs → Ascends xs
 sorted-ascends [] h = tt
-sorted-ascends (x ∷ xs) h = (λ y i. low y xs i (λ k l. h 0 (suc k) 0 (omega arith) (omega arith)), sorted-ascends xs (λ i j d l m. h (suc i) (suc j) d (omega arith) (omega arith)))
+sorted-ascends (x ∷ xs) h = (
+  λ y i. low y xs i (λ k l. h 0 (suc k) 0 (omega arith) (omega arith)),
+  sorted-ascends xs
+      (λ i j d l m. h (suc i) (suc j) d (omega arith) (omega arith)),
+)
   where
     low : (y : ℕ) (zs : List ℕ) → In y zs → ((k : ℕ) → k < length zs → x ≤ get_or zs k 0) → x ≤ y
     low y [] i f = absurd i
@@ -98,7 +107,8 @@ in-times z [] i = absurd i
 in-times z (x ∷ xs) (inl e) =
     let s : times z (x ∷ xs) ≡ is_one z x + times z xs = sum_by-cons (is_one z) x xs in
     let o : is_one z x ≡ 1 = rw (is_one, eq-number x z e) refl in omega arith
-in-times z (x ∷ xs) (inr j) = let s : times z (x ∷ xs) ≡ is_one z x + times z xs = sum_by-cons (is_one z) x xs in let k : 0 < times z xs = in-times z xs j in omega arith
+in-times z (x ∷ xs) (inr j) = let s : times z (x ∷ xs) ≡ is_one z x + times z xs = sum_by-cons (is_one z) x xs in let k : 0 < times z xs =
+    in-times z xs j in omega arith
 
 -- and what is counted stands in it
 times-in : (z : ℕ) (xs : List ℕ) → 0 < times z xs → In z xs
@@ -117,7 +127,8 @@ ascends-same [] [] a b e = refl
 ascends-same [] (y ∷ ys) a b e = absurd (times-in y [] (rw (e y) (in-times y (y ∷ ys) (inl refl))))
 ascends-same (x ∷ xs) [] a b e = absurd (times-in x [] (rw (← (e x)) (in-times x (x ∷ xs) (inl refl))))
 ascends-same (x ∷ xs) (y ∷ ys) a b e =
-    let first : x ≡ y = heads (times-in x (y ∷ ys) (rw (← (e x)) (in-times x (x ∷ xs) (inl refl)))) (times-in y (x ∷ xs) (rw (e y) (in-times y (y ∷ ys) (inl refl)))) in
+    let first : x ≡ y = heads (times-in x (y ∷ ys) (rw (← (e x)) (in-times x (x ∷ xs) (inl refl))))
+    (times-in y (x ∷ xs) (rw (e y) (in-times y (y ∷ ys) (inl refl)))) in
     let rest : xs ≡ ys = ascends-same xs ys a.1 b.1 (λ z. tails z first) in
     subst (λ w. x ∷ xs ≡ w ∷ ys) first (ap (λ zs. x ∷ zs) rest)
   where
@@ -138,7 +149,8 @@ times-insert : (z n : ℕ) (ys : List ℕ) → times z (insert_rising n ys) ≡ 
 times-insert z n [] = sum_by-cons (is_one z) n []
 times-insert z n (y ∷ ys) = go (nat_lt n y) refl (times-insert z n ys)
   where
-    go : (t : Bool) → nat_lt n y ≡ t → times z (insert_rising n ys) ≡ is_one z n + times z ys → times z (insert_rising n (y ∷ ys)) ≡ is_one z n + times z (y ∷ ys)
+    go : (t : Bool) → nat_lt n y ≡ t → times z (insert_rising n ys) ≡ is_one z n + times z ys → times z (insert_rising n (y ∷ ys)) ≡ is_one z n + times z
+        (y ∷ ys)
     go true p i = rw (insert_rising, p) (sum_by-cons (is_one z) n (y ∷ ys))
     go false p i =
         let s : times z (y ∷ insert_rising n ys) ≡ is_one z y + times z (insert_rising n ys) = sum_by-cons (is_one z) y (insert_rising n ys) in
@@ -163,7 +175,8 @@ sort-merges xs ys zs p q d moved sorted =
 -- merged lists are as long as both
 pub length-merge : (xs ys : List ℕ) → length (merge_rising xs ys) ≡ length xs + length ys
 length-merge [] ys = omega arith
-length-merge (x ∷ xs) ys = let i : length (merge_rising xs ys) ≡ length xs + length ys = length-merge xs ys in let t : length (insert_rising x (merge_rising xs ys)) ≡ suc (length (merge_rising xs ys)) = insert x (merge_rising xs ys) in omega arith
+length-merge (x ∷ xs) ys = let i : length (merge_rising xs ys) ≡ length xs + length ys = length-merge xs ys in let t : length
+    (insert_rising x (merge_rising xs ys)) ≡ suc (length (merge_rising xs ys)) = insert x (merge_rising xs ys) in omega arith
   where
     insert : (n : ℕ) (zs : List ℕ) → length (insert_rising n zs) ≡ suc (length zs)
     insert n [] = refl

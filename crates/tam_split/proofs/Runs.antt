@@ -1,11 +1,12 @@
 -- A run moved in front of what stands between it and an earlier run, and merged into that by a sort.
-use Rattle.std.proofs.Common.{◌≡◌, ℕ, ◌+◌, ◌-◌, ◌<◌, ◌≤◌, List, [], ◌∷◌, ◌++◌, refl, sym, ap, ap₂, subst, ◌∙◌, arith, length, take, drop, append_assoc, length-append, length-drop, length-take-le}
+use Rattle.std.proofs.Common.{◌≡◌, ℕ, ◌+◌, ◌-◌, ◌≤◌, List, ◌++◌, sym, ap, ap₂, subst, ◌∙◌, arith, length, take, drop}
+use Rattle.std.proofs.Common.{append_assoc, length-append, length-drop, length-take-le}
 use Rattle.std.specs.Prelude.{slice_range}
 use Rattle.std.specs.List.Sorted.{IsPermutation, IsNonDecreasingBy}
 use Rattle.std.proofs.lemmas.List.{take_at, drop_at, drop-drop, take-append-drop}
 use borrow.Rule.Slice.PartMut.{put_mid, mid_of}
 use Rattle.tam_word.specs.Lists.{merge_rising}
-use Rattle.tam_word.proofs.Members.{In, in-has}
+use Rattle.tam_word.proofs.Members.{in-has}
 use Rattle.tam_split.specs.KeptParts.{AreApart, with_joined}
 use Rattle.tam_split.proofs.Rising.{sort-merges}
 
@@ -79,7 +80,8 @@ cut-again w i j h =
 -- a piece is as long as its bounds say
 length-piece : (w : List ℕ) (i j : ℕ) → i ≤ j → j ≤ length w → i + length (slice_range w i j) ≡ j
 length-piece w i j h l =
-    let n : j - i ≤ length (drop i w) = omega (arith, length-drop i w) in let e : length (slice_range w i j) ≡ j - i = length-take-le (j - i) (drop i w) n in omega arith
+    let n : j - i ≤ length (drop i w) = omega (arith, length-drop i w) in let e : length (slice_range w i j) ≡ j - i = length-take-le (j - i)
+    (drop i w) n in omega arith
 
 -- the runs between these bounds are joined
 pub runs-joined : (w : List ℕ) (from middle start end : ℕ) → from ≤ middle → middle ≤ start → start ≤ end → end ≤ length w

@@ -1,11 +1,11 @@
 -- One class for each place: how the classes are stored, and that the type keeps what it keeps.
-use Rattle.std.proofs.Common.{◌≡◌, ℕ, zero, suc, ◌+◌, ◌<◌, ◌≤◌, true, nat_lt, List, [], ◌∷◌, ◌++◌, refl, sym, ap, subst, ◌∙◌, arith, inl, inr, ◌⊎◌, length, map, length-append, add-one}
+use Rattle.std.proofs.Common.{◌≡◌, ℕ, zero, suc, ◌+◌, ◌<◌, ◌≤◌, true, nat_lt, List, [], ◌∷◌, ◌++◌, refl, sym, ap, subst, ◌∙◌, arith, inl, inr}
+use Rattle.std.proofs.Common.{length, map, add-one}
 use Rattle.std.specs.List.{concat}
 use Rattle.std.proofs.lemmas.List.{map-append}
-use Rattle.tam_word.specs.Lists.{all_of, below}
+use Rattle.tam_word.specs.Lists.{below}
 use Rattle.tam_word.proofs.Members.{In, in-all, in-map, in-below, in-append}
-use Rattle.tam_word.proofs.Tests.{below-test}
-use Rattle.tam_split.specs.Partitions.{Parts, single}
+use Rattle.tam_split.specs.Partitions.{single}
 use Rattle.tam_split.specs.KeptParts.{is_rising, HaveEach, AreClasses, AreFlat, cut_from, ends_from}
 use Rattle.tam_split.proofs.Partitioning.{length-below, single-parts}
 use Rattle.tam_split.proofs.Rising.{rising-cons, head-below, tail-rising}

@@ -1,5 +1,6 @@
 -- The classes as they are stored: where a class stands, and what a merge leaves.
-use Rattle.std.proofs.Common.{◌≡◌, ℕ, zero, suc, ◌+◌, ◌-◌, ◌^◌, ◌<◌, ◌≤◌, true, nat_lt, inl, inr, List, [], ◌∷◌, ◌++◌, refl, sym, ap, ap₂, subst, ◌∙◌, arith, length, map, take, drop, get_or, append_assoc, length-append, length-drop, length-take-le}
+use Rattle.std.proofs.Common.{◌≡◌, ℕ, suc, ◌+◌, ◌-◌, ◌^◌, ◌<◌, ◌≤◌, true, nat_lt, inl, inr, List, [], ◌∷◌, ◌++◌, refl, sym, ap, ap₂, subst, ◌∙◌}
+use Rattle.std.proofs.Common.{arith, length, map, take, drop, get_or, append_assoc, length-append, length-drop, length-take-le}
 use Rattle.std.specs.Prelude.{slice_range}
 use Rattle.std.specs.List.{concat, remove, All}
 use Rattle.std.proofs.lemmas.List.Elements.{All-from_recursion}
@@ -11,8 +12,10 @@ use Rattle.tam_split.specs.Partitions.{Parts, class_at, merged}
 use Rattle.tam_split.specs.KeptParts.{AreFlat, AreClasses, AreApart, cut_from, ends_from, with_joined}
 use Rattle.tam_word.proofs.Each.{in-each}
 use Rattle.tam_split.proofs.Rising.{length-merge}
-use Rattle.tam_split.proofs.Flat.{ends-append, start-behind, end-behind, ends-moved, length-ends, length-cut, cut-all, range-behind, concat-append, Around, around}
-use Rattle.tam_split.proofs.Merged.{class_at-behind, apart, united, later, merged-is, concat-apart, concat-united, first-rising, second-rising, none-in_both, united-kept}
+use Rattle.tam_split.proofs.Flat.{ends-append, start-behind, end-behind, ends-moved, length-ends, length-cut, cut-all, range-behind, concat-append}
+use Rattle.tam_split.proofs.Flat.{around}
+use Rattle.tam_split.proofs.Merged.{class_at-behind, apart, united, later, merged-is, concat-apart, concat-united, first-rising, second-rising}
+use Rattle.tam_split.proofs.Merged.{none-in_both, united-kept}
 
 -- ---- where a class stands
 
@@ -60,7 +63,8 @@ class-stands_from ps places ends flat k h start end a b =
     subst (λ n. Stands_from ps places k n end) (sym c) (subst (λ n. Stands_from ps places k (get_or (0 ∷ ends_from 0 ps) k 0) n) (sym d) at)
 
 -- where the code reads the bounds off the ends
-pub class-bounds : (places ends : List ℕ) (k : ℕ) → AreFlat (cut_from 0 places ends) places ends → k < length (cut_from 0 places ends) → (ds : List ℕ) → ds ≡ ends
+pub class-bounds : (places ends : List ℕ) (k : ℕ) → AreFlat (cut_from 0 places ends) places ends → k < length (cut_from 0 places ends) → (ds : List ℕ)
+    → ds ≡ ends
     → (start end : ℕ) → start ≡ get_or (0 ∷ ds) k 0 → end ≡ get_or ds k 0 → Stands_from (cut_from 0 places ends) places k start end
 class-bounds places ends k flat h ds e start end a b =
     class-stands_from (cut_from 0 places ends) places ends flat k h start end (a ∙ ap (λ l. get_or (0 ∷ l) k 0) e) (b ∙ ap (λ l. get_or l k 0) e)
@@ -73,7 +77,8 @@ few-classes ps kept = let l : length ps ≤ length (concat ps) = go ps kept.none
     go [] h = omega arith
     go (q ∷ qs) h =
         let first : 0 < length q = test-below 0 (length q) (all-in (λ (r : List ℕ). nat_lt 0 (length r)) (q ∷ qs) h q (inl refl)) in
-        let rest : length qs ≤ length (concat qs) = go qs (in-all (λ (r : List ℕ). nat_lt 0 (length r)) qs (λ r i. all-in (λ (s : List ℕ). nat_lt 0 (length s)) (q ∷ qs) h r (inr i))) in
+        let rest : length qs ≤ length (concat qs) = go qs (in-all (λ (r : List ℕ). nat_lt 0 (length r)) qs
+        (λ r i. all-in (λ (s : List ℕ). nat_lt 0 (length s)) (q ∷ qs) h r (inr i))) in
         omega (arith, length-append q (concat qs))
 
 -- each end is at most the number of places
@@ -141,7 +146,8 @@ module _ (ps : Parts) (p : List ℕ) (ms : Parts) (q : List ℕ) (qs : Parts) wh
       ap₂ (λ x es. x ∷ es) eu (ends-moved e (length q) ms ∙ ap (λ x. ends_from x ms) eu) in
       let three : moved_ends (ends_from 0 ps ++ ((e ∷ ends_from e ms) ++ f ∷ ends_from f qs)) (length ps) (later ps p ms q qs) (length q)
       ≡ ends_from 0 ps ++ (map (λ x. x + length q) (e ∷ ends_from e ms) ++ ends_from f qs) =
-      ends-cut (ends_from 0 ps) (e ∷ ends_from e ms) (ends_from f qs) f (length q) (length ps) (later ps p ms q qs) (length-ends 0 ps) (omega (arith, length-ends e ms)) in
+      ends-cut (ends_from 0 ps) (e ∷ ends_from e ms) (ends_from f qs) f (length q) (length ps) (later ps p ms q qs) (length-ends 0 ps)
+      (omega (arith, length-ends e ms)) in
       ap (λ es. moved_ends es (length ps) (later ps p ms q qs) (length q)) cut
       ∙ (three ∙ (ap₂ (λ l x. ends_from 0 ps ++ (l ++ ends_from x qs)) moved fv ∙ sym cut2))
 
@@ -158,7 +164,8 @@ module _ (ps : Parts) (p : List ℕ) (ms : Parts) (q : List ℕ) (qs : Parts) wh
 
   -- how long they are
   concat-front : length (concat (ps ++ p ∷ ms)) ≡ length (concat ps) + (length p + length (concat ms))
-  concat-front = ap length (concat-append ps (p ∷ ms)) ∙ (length-append (concat ps) (p ++ concat ms) ∙ ap (λ n. length (concat ps) + n) (length-append p (concat ms)))
+  concat-front = ap length (concat-append ps (p ∷ ms)) ∙ (length-append (concat ps) (p ++ concat ms) ∙ ap (λ n. length (concat ps) + n)
+      (length-append p (concat ms)))
 
   module _ (from middle start end : ℕ) (f : from ≡ get_or (0 ∷ ends_from 0 (apart ps p ms q qs)) (length ps) 0)
       (m : middle ≡ get_or (ends_from 0 (apart ps p ms q qs)) (length ps) 0) (s : start ≡ get_or (0 ∷ ends_from 0 (apart ps p ms q qs)) (later ps p ms q qs) 0)
@@ -196,7 +203,8 @@ module _ (ps : Parts) (p : List ℕ) (ms : Parts) (q : List ℕ) (qs : Parts) wh
     first-is : slice_range w from middle ≡ p
     first-is =
         let x = from-is in let y = middle-is in
-        ap (λ l. slice_range l from middle) (concat-apart ps p ms q qs) ∙ range-behind (concat ps) p (concat ms ++ (q ++ concat qs)) from middle (omega arith) (omega arith)
+        ap (λ l. slice_range l from middle) (concat-apart ps p ms q qs) ∙ range-behind (concat ps) p (concat ms ++ (q ++ concat qs)) from middle
+        (omega arith) (omega arith)
 
     between-is : slice_range w middle start ≡ concat ms
     between-is =
@@ -208,7 +216,12 @@ module _ (ps : Parts) (p : List ℕ) (ms : Parts) (q : List ℕ) (qs : Parts) wh
     second-is =
         let x = start-is in let y = end-is in
         ap (λ l. slice_range l start end) grouped-later
-        ∙ range-behind ((concat ps ++ p) ++ concat ms) q (concat qs) start end (omega (arith, length-append (concat ps ++ p) (concat ms), length-append (concat ps) p)) (omega arith)
+        ∙ range-behind ((concat ps ++ p) ++ concat ms) q (concat qs) start end (omega (
+          arith,
+          length-append (concat ps ++ p) (concat ms),
+          length-append
+              (concat ps) p,
+        )) (omega arith)
 
     rest-is : drop end w ≡ concat qs
     rest-is =
@@ -222,8 +235,10 @@ module _ (ps : Parts) (p : List ℕ) (ms : Parts) (q : List ℕ) (qs : Parts) wh
     joined-is : with_joined w from middle start end ≡ concat (united ps p ms q qs)
     joined-is =
         let x = from-is in
-        let t : take from w ≡ concat ps = ap (take from) (concat-apart ps p ms q qs) ∙ take_at (concat ps) (p ++ (concat ms ++ (q ++ concat qs))) from (omega arith) in
-        ap₂ (λ l r. l ++ r) t (ap₂ (λ l r. l ++ r) (ap₂ merge_rising first-is second-is) (ap₂ (λ l r. l ++ r) between-is rest-is)) ∙ sym (concat-united ps p ms q qs)
+        let t : take from w ≡ concat ps = ap (take from) (concat-apart ps p ms q qs) ∙ take_at (concat ps) (p ++ (concat ms ++ (q ++ concat qs))) from
+        (omega arith) in
+        ap₂ (λ l r. l ++ r) t (ap₂ (λ l r. l ++ r) (ap₂ merge_rising first-is second-is) (ap₂ (λ l r. l ++ r) between-is rest-is)) ∙ sym
+        (concat-united ps p ms q qs)
 
     module _ (kept : AreClasses (apart ps p ms q qs)) where
       -- what the code that joins them is to be told
@@ -232,7 +247,8 @@ module _ (ps : Parts) (p : List ℕ) (ms : Parts) (q : List ℕ) (qs : Parts) wh
           let x = from-is in let y = middle-is in let z = start-is in let v = end-is in
           let all : length w ≡ length (concat ps) + (length p + (length (concat ms) + (length q + length (concat qs)))) = ap length (concat-apart ps p ms q qs)
           ∙ (length-append (concat ps) (p ++ (concat ms ++ (q ++ concat qs)))
-          ∙ ap (λ n. length (concat ps) + n) (length-append p (concat ms ++ (q ++ concat qs)) ∙ ap (λ n. length p + n) (length-append (concat ms) (q ++ concat qs) ∙ ap (λ n. length (concat ms) + n) (length-append q (concat qs))))) in
+          ∙ ap (λ n. length (concat ps) + n) (length-append p (concat ms ++ (q ++ concat qs)) ∙ ap (λ n. length p + n)
+          (length-append (concat ms) (q ++ concat qs) ∙ ap (λ n. length (concat ms) + n) (length-append q (concat qs))))) in
           record {
             first = omega arith;
             between = omega arith;
@@ -252,13 +268,15 @@ module _ (ps : Parts) (p : List ℕ) (ms : Parts) (q : List ℕ) (qs : Parts) wh
       flat-united =
           let z = start-is in let v = end-is in
           let n : end - start ≡ length q = omega arith in
-          let flat : AreFlat (united ps p ms q qs) (with_joined w from middle start end) (moved_ends (ends_from 0 (apart ps p ms q qs)) (length ps) (later ps p ms q qs) (end - start)) =
+          let flat : AreFlat (united ps p ms q qs) (with_joined w from middle start end) (moved_ends (ends_from 0 (apart ps p ms q qs)) (length ps)
+          (later ps p ms q qs) (end - start)) =
           record {
             places_of = joined-is;
             ends_of = ap (λ k. moved_ends (ends_from 0 (apart ps p ms q qs)) (length ps) (later ps p ms q qs) k) n ∙ ends-united;
             classes = united-kept ps p ms q qs kept;
           } in
-          subst (λ rs. AreFlat rs (with_joined w from middle start end) (moved_ends (ends_from 0 (apart ps p ms q qs)) (length ps) (later ps p ms q qs) (end - start)))
+          subst (λ rs. AreFlat rs (with_joined w from middle start end) (moved_ends (ends_from 0 (apart ps p ms q qs)) (length ps) (later ps p ms q qs)
+          (end - start)))
           (sym (merged-is ps p ms q qs)) flat
 
 -- ---- of any two classes
@@ -300,7 +318,8 @@ around-two ps a b l h =
 
 -- uniting two classes where they are stored merges them
 pub unites : (ps : Parts) (places ends : List ℕ) → AreFlat ps places ends → (a b : ℕ) → a < b → b < length ps → (from middle start end : ℕ)
-    → from ≡ get_or (0 ∷ ends) a 0 → middle ≡ get_or ends a 0 → start ≡ get_or (0 ∷ ends) b 0 → end ≡ get_or ends b 0 → Unites ps places ends a b from middle start end
+    → from ≡ get_or (0 ∷ ends) a 0 → middle ≡ get_or ends a 0 → start ≡ get_or (0 ∷ ends) b 0 → end ≡ get_or ends b 0
+    → Unites ps places ends a b from middle start end
 unites ps places ends flat a b l h from middle start end f m s e =
     let r = around-two ps a b l h in
     let es : ends ≡ ends_from 0 (apart r.before r.first r.between r.second r.behind) = flat.ends_of ∙ ap (ends_from 0) r.all in
@@ -328,11 +347,13 @@ unites ps places ends flat a b l h from middle start end f m s e =
         (subst (λ x. Unites x (concat all) (ends_from 0 all) (length before) (later before first between second behind) from middle start end) (sym i) plain))))
 
 -- where the code reads the bounds off the ends
-pub unites-read : (places ends : List ℕ) (a b : ℕ) → AreFlat (cut_from 0 places ends) places ends → a < b → b < length ends → (ds es : List ℕ) → ds ≡ ends → es ≡ ends
+pub unites-read : (places ends : List ℕ) (a b : ℕ) → AreFlat (cut_from 0 places ends) places ends → a < b → b < length ends → (ds es : List ℕ) → ds ≡ ends
+    → es ≡ ends
     → (from middle start end : ℕ) → from ≡ get_or (0 ∷ ds) a 0 → middle ≡ get_or ds a 0 → start ≡ get_or (0 ∷ es) b 0 → end ≡ get_or es b 0
     → Unites (cut_from 0 places ends) places ends a b from middle start end
 unites-read places ends a b flat l h ds es i j from middle start end f m s e =
-    unites (cut_from 0 places ends) places ends flat a b l (let n = length-cut 0 places ends in omega arith) from middle start end (f ∙ ap (λ x. get_or (0 ∷ x) a 0) i) (m ∙ ap (λ x. get_or x a 0) i)
+    unites (cut_from 0 places ends) places ends flat a b l (let n = length-cut 0 places ends in omega arith) from middle start end
+    (f ∙ ap (λ x. get_or (0 ∷ x) a 0) i) (m ∙ ap (λ x. get_or x a 0) i)
     (s ∙ ap (λ x. get_or (0 ∷ x) b 0) j) (e ∙ ap (λ x. get_or x b 0) j)
 
 -- what is stored is cut out again
@@ -352,7 +373,8 @@ ends-fit ps places ends flat by h =
     fits e l = omega arith
 
 -- what the code leaves of the ends
-pub removed-is : (ds ends moved es : List ℕ) (n a b by : ℕ) → ds ≡ ends → n ≡ length ends → a < b → b < length ends → moved ≡ map (λ e. e + by) (take (b - a) (drop a ds))
+pub removed-is : (ds ends moved es : List ℕ) (n a b by : ℕ) → ds ≡ ends → n ≡ length ends → a < b → b < length ends → moved ≡ map (λ e. e + by)
+    (take (b - a) (drop a ds))
     → es ≡ remove (take n ((take a ds ++ (moved ++ drop (b - a) (drop a ds))) ++ drop (length (take a ds ++ (moved ++ drop (b - a) (drop a ds)))) ends)) b
     → es ≡ moved_ends ends a b by
 removed-is ds ends moved es n a b by i k l h m r =

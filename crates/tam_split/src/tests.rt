@@ -4,7 +4,6 @@ ghost use Rattle.std.specs.Prelude.{◌≡◌};
 use crate::{Half, Parts, Vertex, split};
 use std::test::Fail;
 use tam_graph::{Accepted, Code, Graph, Kind, Name, Node};
-use tam_word::Op;
 
 fn node(name: Option<Name>, depth: u8, kind: Kind) -> Node
     ensures { result ≡ record { name = name; depth = depth; block = 0; kind = kind } }
@@ -55,52 +54,6 @@ fn what_asks_outside_is_cut_in_two(rt: HostRuntime) -> Result<(), Fail> {
     ];
     assert_eq!(rt; block.vertices(), vertices.as_slice());
     assert_eq!(rt; block.edges(), [(0, 1), (0, 3), (2, 3), (4, 5)].as_slice());
-    Ok(())
-}
-
-// dg 1 / code main / a = param 0 / b = param 1 / one = const 1 / c = add a one / d = add b c / result 0 c / result 1 d / end
-#[test]
-fn edges_rise(rt: HostRuntime) -> Result<(), Fail> {
-    let main = Name::of(b"main").expect(&rt, "main is a name");
-    let a = Name::of(b"a").expect(&rt, "a is a name");
-    let b = Name::of(b"b").expect(&rt, "b is a name");
-    let one = Name::of(b"one").expect(&rt, "one is a name");
-    let c = Name::of(b"c").expect(&rt, "c is a name");
-    let d = Name::of(b"d").expect(&rt, "d is a name");
-    let nodes = vec![in rt.alloc();
-        node(Some(a), 0, Kind::Param { place: 0 }),
-        node(Some(b), 0, Kind::Param { place: 1 }),
-        node(Some(one), 0, Kind::Const { word: 1 }),
-        node(
-            Some(c),
-            0,
-            Kind::Op {
-                op: Op::Add,
-                a: 0,
-                b: 2
-            }
-        ),
-        node(
-            Some(d),
-            0,
-            Kind::Op {
-                op: Op::Add,
-                a: 1,
-                b: 3
-            }
-        ),
-        node(None, 0, Kind::Give { place: 0, a: 3 }),
-        node(None, 0, Kind::Give { place: 1, a: 4 }),
-    ]?;
-    let owners = vec![in rt.alloc(); None]?;
-    let codes = vec![in rt.alloc(); Code::of(main, nodes, owners)]?;
-    let accepted = Accepted::of(Graph::of(codes));
-    let Ok(block) = split(rt.alloc(), &accepted, 0, 0) else {
-        return Err(Fail::from("no memory"));
-    };
-    assert_eq!(rt; block.vertices().len(), 7);
-    let edges = [(0, 3), (1, 4), (2, 3), (3, 4), (3, 5), (4, 6)];
-    assert_eq!(rt; block.edges(), edges.as_slice());
     Ok(())
 }
 

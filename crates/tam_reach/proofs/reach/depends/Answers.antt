@@ -1,4 +1,4 @@
-use Rattle.std.proofs.Common.{◌≡◌, ◌+◌, ◌-◌, ◌<◌, ◌≤◌, ◌++◌, ◌∙◌, sym, ap, subst, arith, List, ℕ, map, length, take, drop, get_or, ◌∷◌}
+use Rattle.std.proofs.Common.{◌≡◌, ◌-◌, ◌<◌, ◌≤◌, ◌++◌, ◌∙◌, sym, ap, subst, arith, List, ℕ, map, length, take, drop, get_or, ◌∷◌}
 use Rattle.std.proofs.lemmas.List.{take_at}
 use Rattle.tam_word.specs.Lists.{below}
 use Rattle.tam_split.specs.declared.vertex.Vertex.{Vertex}
@@ -28,9 +28,11 @@ loop-place-preserved c =
     let next : drop k es ≡ get_or es k (0, 0) ∷ drop c.loop-place.place es = edge-next es k c.loop-place.place (0, 0) there (omega arith) in
     let new = c.spread.new.sets in
     let step : new ≡ map (reaching (drop k es)) (below (length vs)) =
-    depends-step (length vs) (drop c.loop-place.place es) (drop k es) (get_or es k (0, 0)) c.deref_mut.result.now new few next edge.0 edge.1 (c.deref_mut.ensures.value ∙ c.loop-place.invariant) c.spread.ensures.value in
+    depends-step (length vs) (drop c.loop-place.place es) (drop k es) (get_or es k (0, 0)) c.deref_mut.result.now new few next edge.0 edge.1
+    (c.deref_mut.ensures.value ∙ c.loop-place.invariant) c.spread.ensures.value in
     let long : length new ≡ c.loop-place.sets.len = omega (arith, ap length c.deref_mut.ensures.value, c.deref_mut.ensures.len) in
-    let back : take c.loop-place.sets.len (new ++ drop (length new) c.loop-place.sets.items) ≡ new = take_at new (drop (length new) c.loop-place.sets.items) c.loop-place.sets.len long in
+    let back : take c.loop-place.sets.len (new ++ drop (length new) c.loop-place.sets.items) ≡ new = take_at new
+    (drop (length new) c.loop-place.sets.items) c.loop-place.sets.len long in
     back ∙ step
 
 pub returns : goal.returns
@@ -40,7 +42,10 @@ returns c =
     let new = c.keep.new.sets in
     let first : c.loop-place.place ≡ 0 = omega arith in
     let all =
-    depends-end c.args.b.now vs es c.loop-place.place c.deref_mut-2.result.now new c.inlets.result c.vertices-vertices.ensures.value c.edges-edges.ensures.value c.vertices-vertices.ensures.few first (c.deref_mut-2.ensures.value ∙ c.loop-place.invariant) c.inlets.ensures.value c.keep.ensures.value in
+    depends-end c.args.b.now vs es c.loop-place.place c.deref_mut-2.result.now new c.inlets.result c.vertices-vertices.ensures.value
+    c.edges-edges.ensures.value c.vertices-vertices.ensures.few first (c.deref_mut-2.ensures.value
+    ∙ c.loop-place.invariant) c.inlets.ensures.value c.keep.ensures.value in
     let long : length new ≡ c.loop-place.sets.len = omega (arith, ap length c.deref_mut-2.ensures.value, c.deref_mut-2.ensures.len) in
-    let back : take c.loop-place.sets.len (new ++ drop (length new) c.loop-place.sets.items) ≡ new = take_at new (drop (length new) c.loop-place.sets.items) c.loop-place.sets.len long in
+    let back : take c.loop-place.sets.len (new ++ drop (length new) c.loop-place.sets.items) ≡ new = take_at new
+    (drop (length new) c.loop-place.sets.items) c.loop-place.sets.len long in
     record { value = back ∙ all }

@@ -8,6 +8,7 @@ loop-place-preserved c =
     let place = c.loop-place.place in
     let pushed : is_ok c.push.result ≡ true = c.is_err.ensures.negation ∙ ap not c.if-is_err.false in
     let more = rw pushed at c.push.ensures.items in
-    let alone : c.insert.new.self ≡ places_where (λ x. x == place) = c.insert.ensures.value ∙ ap (λ (xs : List ℕ). with_place place xs) c.empty-alone.ensures.value in
+    let alone : c.insert.new.self ≡ places_where (λ x. x == place) = c.insert.ensures.value ∙ ap
+    (λ (xs : List ℕ). with_place place xs) c.empty-alone.ensures.value in
     more
     ∙ (ap₂ (λ (xs : List (List ℕ)) (x : List ℕ). xs ++ x ∷ []) c.loop-place.invariant alone ∙ sym (map-more (λ (y : ℕ). places_where (λ x. x == y)) place))

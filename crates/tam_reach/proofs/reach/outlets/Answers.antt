@@ -11,6 +11,8 @@ loop-place-preserved c =
     elim c.if-vertex.branch [
       | then-vertex w ↦ w.outlets-is
           ∙ (w.insert.ensures.value
-          ∙ (ap (λ (xs : List ℕ). with_place c.loop-place.place xs) c.loop-place.invariant ∙ up_to-more test c.args.vertices.now c.loop-place.place _ c.loop-place-test.true w.if-vertex.true))
-      | else-vertex w ↦ w.outlets-is ∙ (c.loop-place.invariant ∙ up_to-same test c.args.vertices.now c.loop-place.place _ c.loop-place-test.true w.if-vertex.false)
+          ∙ (ap (λ (xs : List ℕ). with_place c.loop-place.place xs) c.loop-place.invariant
+          ∙ up_to-more test c.args.vertices.now c.loop-place.place _ c.loop-place-test.true w.if-vertex.true))
+      | else-vertex w ↦ w.outlets-is ∙
+          (c.loop-place.invariant ∙ up_to-same test c.args.vertices.now c.loop-place.place _ c.loop-place-test.true w.if-vertex.false)
     ]

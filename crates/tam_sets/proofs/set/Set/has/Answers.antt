@@ -1,4 +1,4 @@
-use Rattle.std.proofs.Common.{◌≡◌, ◌<◌, ◌≤◌, ◌∙◌, sym, ap, subst, arith, tests, false, nat_lt, List, ℕ}
+use Rattle.std.proofs.Common.{◌≡◌, ◌≤◌, ◌∙◌, sym, ap, subst, arith, tests, false, nat_lt, List, ℕ}
 use Rattle.tam_word.specs.Lists.{has}
 use Rattle.tam_sets.specs.Sets.{places_where}
 use Rattle.tam_sets.specs.Bits.{has_bit}

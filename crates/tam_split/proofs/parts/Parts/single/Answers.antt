@@ -1,4 +1,4 @@
-use Rattle.std.proofs.Common.{◌≡◌, ◌≤◌, ◌+◌, ◌∙◌, sym, ap, subst, arith, true, not, is_ok, [], ◌∷◌, ◌++◌}
+use Rattle.std.proofs.Common.{◌≡◌, ◌≤◌, ◌+◌, ◌∙◌, sym, ap, arith, true, not, is_ok, [], ◌∷◌, ◌++◌}
 use Rattle.tam_split.specs.Partitions.{single}
 use Rattle.tam_split.proofs.SingleClasses.{places-more, ends-more, single-flat, single-back}
 use Rattle.tam_split.proofs.parts.Parts.single.Goals as goal

@@ -46,6 +46,7 @@ impl BlockGraph {
     pub fn vertices(&self) -> &[Vertex]
         ensures value { result.now ≡ self.now.vertices }
         ensures few { length self.now.vertices ≤ 128 }
+        ensures block { IsBlockGraph self.now }
     {
         &self.vertices
     }

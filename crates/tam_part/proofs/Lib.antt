@@ -1,0 +1,3 @@
+pub mod LeastPairs
+pub mod Told
+pub mod Merges

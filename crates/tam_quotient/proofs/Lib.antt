@@ -1,0 +1,7 @@
+pub mod Places
+pub mod Spreading
+pub mod Thirds
+pub mod Joining
+pub mod Deciding
+pub mod Tabling
+pub mod Surroundings

@@ -1,0 +1,4 @@
+pub mod Quotients
+pub mod Joins
+pub mod Spreads
+pub mod Tables

@@ -1,7 +1,7 @@
 -- Bytes that aren't equal aren't the same.
 use Rattle.std.proofs.Common.{◌≡◌, ℕ, List, Bool, true, false, refl}
 use Rattle.tam_word.specs.Lists.{same_bytes}
-use Rattle.tam_graph.proofs.SameBytes.{same_equal}
+use Rattle.tam_text.proofs.SameBytes.{same_equal}
 
 -- what differs fails the test
 pub same-differs : (xs ys : List ℕ) → (xs ≡ ys → ⊥) → same_bytes xs ys ≡ false

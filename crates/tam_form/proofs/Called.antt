@@ -5,13 +5,13 @@ use Rattle.std.specs.Prelude.{Option, is_none}
 use Rattle.tam_word.specs.Lists.{any_of, all_differ, same_bytes}
 use Rattle.tam_word.proofs.Members.{In, in-any}
 use Rattle.tam_graph.specs.declared.node.Node.{Node}
-use Rattle.tam_graph.specs.Names.{is_name}
+use Rattle.tam_text.specs.Names.{is_name}
 use Rattle.tam_graph.specs.Texts.{is_named, or_bytes}
 use Rattle.tam_graph.specs.Reading.{is_named_right, given_names}
 use Rattle.tam_form.specs.Form.{names_differ}
 use Rattle.tam_form.specs.Guess.{is_called, number_called}
 use Rattle.tam_form.proofs.Places.{get-take, take-get}
-use Rattle.tam_graph.proofs.SameBytes.{same_self, same_equal}
+use Rattle.tam_text.proofs.SameBytes.{same_self, same_equal}
 
 -- the names of nodes
 abbrev pub names_of : List Node → List (List ℕ)

@@ -24,7 +24,7 @@ use Rattle.tam_graph.proofs.Uncycled.{no-fault}
 use Rattle.tam_graph.specs.NodeLists.{number_where}
 use Rattle.tam_form.specs.Form.{same_interface, gives_value, or_no_value, has_value_at, kind_fits, has_place, fits, place_fits}
 use Rattle.tam_form.specs.Text.{main_code, main_graph}
-use Rattle.tam_graph.proofs.SameBytes.{same_equal}
+use Rattle.tam_text.proofs.SameBytes.{same_equal}
 use Rattle.tam_form.proofs.Places.{length-below, there, take-get, get-take, all-at, at-all, below-all}
 use Rattle.tam_form.proofs.Fitting.{at-fit, parts-fit}
 use Rattle.tam_form.proofs.Facts.{is_plain, same-interface, built-plain}

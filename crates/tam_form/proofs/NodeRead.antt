@@ -14,7 +14,7 @@ use Rattle.tam_word.proofs.SignedText.{word_of-signed_text}
 use Rattle.tam_graph.specs.declared.kind.Kind.{Kind}
 use Rattle.tam_graph.specs.declared.kind.Kind.TheVariants.{Param, Const, Op as Operate, Seq, Give}
 use Rattle.tam_graph.specs.declared.node.Node.{Node}
-use Rattle.tam_graph.specs.Names.{is_name}
+use Rattle.tam_text.specs.Names.{is_name}
 use Rattle.tam_graph.specs.Texts.{is_named, or_bytes, or_name}
 use Rattle.tam_form.specs.Form.{gives_value, has_value_at, kind_fits, fit_behind, names_differ}
 use Rattle.tam_form.specs.Text.{name_at, line_of}

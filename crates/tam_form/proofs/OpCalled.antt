@@ -5,7 +5,7 @@ use Rattle.tam_word.specs.Lists.{same_bytes}
 use Rattle.tam_word.specs.OpNames.{op_name}
 use Rattle.tam_word.specs.declared.op.Op.{Op}
 use Rattle.tam_word.specs.declared.op.Op.TheVariants.{Add, Sub, Mul, Div, Divu, Rem, Remu, And, Or, Xor, Sll, Srl, Sra, Slt, Sltu, Eq}
-use Rattle.tam_graph.proofs.SameBytes.{same_equal}
+use Rattle.tam_text.proofs.SameBytes.{same_equal}
 use Rattle.tam_form.specs.Guess.{op_among, op_called}
 
 -- an operator's name calls the operator

@@ -10,7 +10,7 @@ use Rattle.tam_word.specs.declared.op.Op.{Op}
 use Rattle.tam_word.specs.declared.op.Op.TheVariants.{Add, Sub, Mul, Div, Divu, Rem, Remu, And, Or, Xor, Sll, Srl, Sra, Slt, Sltu, Eq}
 use Rattle.tam_word.proofs.Tests.{both-true}
 use Rattle.tam_word.proofs.Spelled.{is_decimal-decimal}
-use Rattle.tam_graph.specs.Names.{is_letter, continues_name, is_name}
+use Rattle.tam_text.specs.Names.{is_letter, continues_name, is_name}
 
 -- every byte is above the blank
 abbrev pub is_word : List ℕ → Bool

@@ -9,7 +9,7 @@ use Rattle.tam_graph.specs.Texts.{canonical}
 use Rattle.tam_graph.specs.Reading.{IsOfText, IsCodeOfText, IsCode}
 use Rattle.tam_graph.specs.Accepted.{IsAccepted}
 use Rattle.tam_graph.specs.Built.{IsBuilt}
-use Rattle.tam_graph.proofs.SameBytes.{same_self, same_equal}
+use Rattle.tam_text.proofs.SameBytes.{same_self, same_equal}
 use Rattle.tam_form.specs.Form.{fit_behind, names_differ, places_fit, is_form}
 use Rattle.tam_form.specs.Text.{main_code, main_graph, text_of}
 use Rattle.tam_form.specs.Guess.{nodes_read}

@@ -5,7 +5,7 @@ use Rattle.std.proofs.lemmas.Option.{slice_get-map, slice_get_cases, none-some, 
 use Rattle.tam_word.specs.Lists.{all_differ, same_bytes}
 use Rattle.tam_word.proofs.Members.{get-in, in-any}
 use Rattle.tam_graph.specs.Graphs.{Code, or_code}
-use Rattle.tam_graph.proofs.SameBytes.{same_self, same_equal}
+use Rattle.tam_text.proofs.SameBytes.{same_self, same_equal}
 use Rattle.tam_graph.proofs.NodeNames.{differ-behind}
 use Rattle.tam_graph.proofs.FirstPlaces.{first_within, first_passes}
 

@@ -13,7 +13,6 @@ pub mod Branches
 pub mod NamedNodes
 pub mod BranchBlocks
 pub mod Padded
-pub mod SameBytes
 pub mod FewNodes
 pub mod FirstPlaces
 pub mod NodeNames

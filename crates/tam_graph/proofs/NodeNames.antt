@@ -8,7 +8,7 @@ use Rattle.tam_graph.specs.declared.node.Node.{Node}
 use Rattle.tam_graph.specs.Graphs.{Code}
 use Rattle.tam_graph.specs.Finding.{is_the_name, name_of, name_at}
 use Rattle.tam_graph.specs.Reading.{given_names, IsCode}
-use Rattle.tam_graph.proofs.SameBytes.{same_self, same_equal}
+use Rattle.tam_text.proofs.SameBytes.{same_self, same_equal}
 
 -- a name that is there is given
 given-in : (ns : List (Option (List ℕ))) (y : ℕ) (a : List ℕ) → slice_get ns y ≡ Some (Some a) → In a (given_names ns)

@@ -2,7 +2,7 @@
 use Rattle.std.proofs.Common.{◌≡◌, ℕ, List, length, take, drop, ◌++◌, ◌-◌, refl}
 use Rattle.std.specs.Prelude.{replicate}
 use Rattle.std.proofs.lemmas.List.{take_at, drop_at, drop-replicate}
-use Rattle.tam_graph.specs.Names.{IsName}
+use Rattle.tam_text.specs.Names.{IsName}
 
 pub padded : (name front : List ℕ) → front ≡ name → IsName name
     → IsName (take (length name) (front ++ drop (length name) (replicate 32 0)))

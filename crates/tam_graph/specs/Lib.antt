@@ -1,10 +1,8 @@
-pub mod Names
 pub mod Padding
 pub mod Graphs
 pub mod Edges
 pub mod Written
 pub mod Accepted
-pub mod Lines
 pub mod Texts
 pub mod Reading
 pub mod Finding

@@ -3,7 +3,7 @@ use Rattle.std.specs.Prelude.{◌≡◌, ℕ, ◌-◌, List, ◌++◌, length, t
 use Rattle.std.proofs.Common.{sym, ◌∙◌, ap}
 use Rattle.std.proofs.lemmas.List.{take-append-drop}
 use Rattle.tam_graph.specs.declared.name.Name.TheInside.{Inside}
-use Rattle.tam_graph.specs.Names.{IsName}
+use Rattle.tam_text.specs.Names.{IsName}
 
 abbrev pub IsPadded : Inside → Type 0
 IsPadded n = IsName (take n.len n.bytes) × (drop n.len n.bytes ≡ replicate (32 - n.len) 0) × (length (take n.len n.bytes) ≡ n.len)

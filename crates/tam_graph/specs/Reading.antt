@@ -3,8 +3,8 @@ use Rattle.std.specs.Prelude.{ℕ, ◌≡◌, ◌<◌, ◌≤◌, Bool, true, fa
 use Rattle.tam_word.specs.Lists.{all_of, all_differ, same_bytes}
 use Rattle.tam_graph.specs.declared.node.Node.{Node}
 use Rattle.tam_graph.specs.Graphs.{Code, Graph, code_of, main_among}
-use Rattle.tam_graph.specs.Names.{is_name}
-use Rattle.tam_graph.specs.Lines.{token_lines, are_good_bytes}
+use Rattle.tam_text.specs.Names.{is_name}
+use Rattle.tam_text.specs.Lines.{token_lines, are_good_bytes}
 use Rattle.tam_graph.specs.Written.{IsWritten}
 use Rattle.tam_graph.specs.Texts.{Token, Bytes, Number, Line, spells, is_named, or_bytes, graph_lines}
 

@@ -3,7 +3,7 @@ use Rattle.std.specs.Prelude.{◌≡◌, ℕ, refl, List, [], ◌∷◌, ◌++�
 use Rattle.tam_graph.specs.declared.kind.Kind.TheVariants.{Call}
 use Rattle.tam_word.specs.Numbers.{number_behind}
 use Rattle.tam_graph.specs.Texts.{canonical, graph_lines}
-use Rattle.tam_graph.specs.Lines.{token_lines, are_good_bytes}
+use Rattle.tam_text.specs.Lines.{token_lines, are_good_bytes}
 use Rattle.tam_graph.specs.Reading.{same_lines}
 use Rattle.tam_graph.specs.Graphs.{Graph, graph_of}
 

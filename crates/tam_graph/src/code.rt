@@ -72,6 +72,7 @@ impl Code {
     /// For each block the cond that opens it.
     pub fn owners(&self) -> &[Option<u32>]
         ensures value { result.now ≡ self.now.owners }
+        ensures of_text { IsCode self.now }
     {
         &self.owners
     }

@@ -1,9 +1,10 @@
 // The name of a code or of a node.
 ghost use Rattle.std.specs.Prelude.{◌≡◌, ◌↔◌, IsSome, IfSome};
-ghost use Rattle.tam_word.specs.Lists.{all_of, same_bytes};
-ghost use Rattle.tam_graph.specs.Names.{IsName, is_name, is_letter, continues_name};
+ghost use Rattle.tam_word.specs.Lists.{same_bytes};
+ghost use Rattle.tam_text.specs.Names.{IsName};
 
 use std::marker::Model;
+use tam_text::is_name;
 
 const LONGEST: usize = 32;
 
@@ -62,42 +63,6 @@ impl Name {
         ensures value { result ≡ same_bytes bytes.now self.now }
     {
         bytes == self.bytes()
-    }
-}
-
-// Whether the byte is a letter or `_`.
-fn is_letter(byte: u8) -> bool
-    ensures { result ≡ is_letter byte }
-{
-    matches!(byte, b'A'..=b'Z' | b'a'..=b'z' | b'_')
-}
-
-// Whether the byte may stand behind the first of a name.
-fn continues_name(byte: u8) -> bool
-    ensures { result ≡ continues_name byte }
-{
-    is_letter(byte) || matches!(byte, b'0'..=b'9')
-}
-
-fn continue_name(bytes: &[u8]) -> bool
-    ensures { result ≡ all_of continues_name bytes.now }
-{
-    let mut rest = bytes;
-    while let [byte, after @ ..] = rest {
-        if !continues_name(*byte) {
-            return false;
-        }
-        rest = after;
-    }
-    true
-}
-
-fn is_name(bytes: &[u8]) -> bool
-    ensures { result ≡ is_name bytes.now }
-{
-    match bytes {
-        [] => false,
-        [first, rest @ ..] => is_letter(*first) && rest.len() < LONGEST && continue_name(rest),
     }
 }
 

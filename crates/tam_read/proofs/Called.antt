@@ -1,23 +1,12 @@
 -- The verb that a token writes, found by going over all verbs.
-use Rattle.std.proofs.Common.{◌≡◌, ℕ, suc, ◌+◌, ◌<◌, Bool, true, false, eqb, ◌&&◌, List, [], ◌∷◌, length, drop, get_or, refl, sym, ap, ◌∙◌, add-one}
+use Rattle.std.proofs.Common.{◌≡◌, ℕ, suc, ◌+◌, ◌<◌, Bool, true, false, List, [], ◌∷◌, length, drop, get_or, refl, sym, ap, ◌∙◌, add-one}
 use Rattle.std.proofs.Math.Seq.{drop-cons}
 use Rattle.std.specs.Str.{bytes_eq}
 use Rattle.tam_word.specs.Lists.{first_of, same_bytes}
+use Rattle.tam_text.proofs.SameBytes.{same_bytes_is}
 use Rattle.tam_read.specs.declared.form.Verb.{Verb}
 use Rattle.tam_read.specs.declared.form.TheConstants.{VERBS}
 use Rattle.tam_read.specs.Sentences.{verb_text, verb_called}
-
--- a test and then another
-test_then : (t u : Bool) → (elim t [ true ↦ u | false ↦ false ]) ≡ (t && u)
-test_then true u = refl
-test_then false u = refl
-
--- one test of bytes is the other
-pub same_bytes_is : (xs ys : List ℕ) → same_bytes xs ys ≡ bytes_eq xs ys
-same_bytes_is [] [] = refl
-same_bytes_is [] (y ∷ ys) = refl
-same_bytes_is (x ∷ xs) [] = refl
-same_bytes_is (x ∷ xs) (y ∷ ys) = ap (λ u. elim (eqb x y) [ true ↦ u | false ↦ false ]) (same_bytes_is xs ys) ∙ test_then (eqb x y) (bytes_eq xs ys)
 
 -- a verb of another text is left out
 skip : {X : Type 0} (test : X → Bool) (t : Bool) (x : X) (xs : List X) → t ≡ false → (elim t [ true ↦ x ∷ [] | false ↦ first_of test xs ]) ≡ first_of test xs

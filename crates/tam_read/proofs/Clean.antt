@@ -5,8 +5,8 @@ use Rattle.std.specs.List.{filter}
 use Rattle.std.proofs.lemmas.List.Concat.{flat_map-cons}
 use Rattle.tam_word.specs.Lists.{where_so, any_of, same_bytes}
 use Rattle.tam_word.proofs.Members.{In, left-in, right-in, in-append, in-any, none-left, none-right, map-none}
-use Rattle.tam_graph.specs.Lines.{words_of, are_good_bytes, is_some_of}
-use Rattle.tam_graph.proofs.SameBytes.{same_self}
+use Rattle.tam_text.specs.Lines.{words_of, are_good_bytes, is_some_of}
+use Rattle.tam_text.proofs.SameBytes.{same_self}
 use Rattle.tam_read.specs.declared.cause.ReadCause.{ReadCause}
 use Rattle.tam_read.specs.declared.cause.ReadCause.TheVariants.{BadByte, BadLine, BadName, BadNumber, BadNesting, TwiceNamed, TooMany}
 use Rattle.tam_read.specs.declared.cause.Limit.TheVariants.{Codes, CodeVertices, BlockVertices, Nesting}

@@ -9,7 +9,7 @@ use Rattle.tam_word.proofs.Members.{In, left-in, right-in, in-append, any-in}
 use Rattle.tam_word.proofs.Tests.{eq-number, differs-number}
 use Rattle.tam_graph.specs.Graphs.{Code, block_at, or_block, owner_of, one_or_none}
 use Rattle.tam_graph.specs.Written.{depth_of_block}
-use Rattle.tam_graph.proofs.SameBytes.{same_equal}
+use Rattle.tam_text.proofs.SameBytes.{same_equal}
 use Rattle.tam_graph.proofs.Visited.{size, opened}
 use Rattle.tam_read.specs.declared.cause.ReadCause.{ReadCause}
 use Rattle.tam_read.specs.declared.cause.Limit.TheVariants.{Codes, CodeVertices, BlockVertices, Nesting}

@@ -8,11 +8,11 @@ use Rattle.tam_word.proofs.Tests.{both-true, test-below}
 use Rattle.tam_graph.specs.declared.kind.Kind.{Kind}
 use Rattle.tam_graph.specs.declared.kind.Kind.TheVariants as kind
 use Rattle.tam_graph.specs.declared.node.Node.{Node}
-use Rattle.tam_graph.specs.Names.{is_name}
+use Rattle.tam_text.specs.Names.{is_name}
 use Rattle.tam_graph.specs.Graphs.{Code, Graph, code_of, kind_at, block_at, or_kind, or_block}
 use Rattle.tam_graph.specs.Texts.{Line}
 use Rattle.tam_graph.specs.Reading.{is_token, same_line, IsCode}
-use Rattle.tam_graph.proofs.SameBytes.{same_equal}
+use Rattle.tam_text.proofs.SameBytes.{same_equal}
 use Rattle.tam_graph.proofs.Visited.{Items, Done as NoItem, Plain as Item, Branch as Split, size, opened, is_plain}
 use Rattle.tam_read.specs.declared.form.Verb.{Verb}
 use Rattle.tam_read.specs.declared.form.Verb.TheVariants as verb

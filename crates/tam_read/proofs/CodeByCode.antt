@@ -4,7 +4,7 @@ use Rattle.std.proofs.Common.{◌∙◌, true≢false, arith}
 use Rattle.std.proofs.lemmas.List.{map-append}
 use Rattle.std.proofs.lemmas.List.Concat.{flat_map-cons}
 use Rattle.tam_word.specs.Lists.{any_of, same_bytes}
-use Rattle.tam_graph.specs.Lines.{lines_of, words_of}
+use Rattle.tam_text.specs.Lines.{lines_of, words_of}
 use Rattle.tam_read.specs.declared.cause.ReadCause.{ReadCause}
 use Rattle.tam_read.specs.declared.form.Verb.{Verb}
 use Rattle.tam_read.specs.declared.form.Verb.TheVariants as verb

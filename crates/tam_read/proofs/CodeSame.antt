@@ -8,7 +8,7 @@ use Rattle.tam_word.proofs.Members.{In, in-append}
 use Rattle.tam_graph.specs.declared.kind.Kind.{Kind}
 use Rattle.tam_graph.specs.declared.kind.Kind.TheVariants as kind
 use Rattle.tam_graph.specs.declared.node.Node.{Node}
-use Rattle.tam_graph.specs.Names.{is_name}
+use Rattle.tam_text.specs.Names.{is_name}
 use Rattle.tam_graph.specs.Graphs.{Code, Graph, kind_at, block_at, or_kind, or_block}
 use Rattle.tam_graph.specs.Reading.{IsCode}
 use Rattle.tam_graph.proofs.Visited.{Items, Done as NoItem, Plain as Item, Branch as Split, size, opened, is_plain}

@@ -9,12 +9,12 @@ use Rattle.tam_word.specs.Lists.{all_of, same_bytes, below}
 use Rattle.tam_word.proofs.Members.{In, all-in, below-in, get-in}
 use Rattle.tam_word.proofs.Tests.{both-true, number-eq, eq-number}
 use Rattle.tam_graph.specs.declared.node.Node.{Node}
-use Rattle.tam_graph.specs.Names.{is_name}
+use Rattle.tam_text.specs.Names.{is_name}
 use Rattle.tam_graph.specs.Graphs.{Code, Graph, kind_at, depth_at, or_kind, or_depth, node_numbers}
 use Rattle.tam_graph.specs.Texts.{Bytes, Line, visit_line, end_line, code_lines}
 use Rattle.tam_graph.specs.Reading.{same_line, same_lines, is_named_right, IsCodeOfText}
 use Rattle.tam_graph.specs.Written.{is_operand, is_line, greatest_depth}
-use Rattle.tam_graph.proofs.SameBytes.{same_equal}
+use Rattle.tam_text.proofs.SameBytes.{same_equal}
 use Rattle.tam_graph.proofs.Visited.{size, opened}
 use Rattle.tam_read.specs.declared.form.Verb.TheVariants as verb
 use Rattle.tam_read.specs.declared.form.Role.TheVariants as role

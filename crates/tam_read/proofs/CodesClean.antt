@@ -5,7 +5,7 @@ use Rattle.std.proofs.lemmas.List.{length-append}
 use Rattle.std.proofs.lemmas.List.Concat.{flat_map-cons, flat_map-append}
 use Rattle.tam_word.specs.Lists.{any_of, all_differ, same_bytes}
 use Rattle.tam_word.proofs.Members.{In, left-in, right-in, in-append, in-any}
-use Rattle.tam_graph.proofs.SameBytes.{same_self}
+use Rattle.tam_text.proofs.SameBytes.{same_self}
 use Rattle.tam_graph.proofs.NodeNames.{differ-behind}
 use Rattle.tam_read.specs.declared.form.Verb.{Verb}
 use Rattle.tam_read.specs.declared.form.Verb.TheVariants as verb

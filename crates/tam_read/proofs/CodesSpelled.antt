@@ -9,13 +9,13 @@ use Rattle.tam_word.specs.Numbers.{some_if}
 use Rattle.tam_word.proofs.Members.{In, left-in, right-in, in-append, in-map}
 use Rattle.tam_word.proofs.Tests.{true-both, both-true, number-eq}
 use Rattle.tam_graph.specs.declared.node.Node.{Node}
-use Rattle.tam_graph.specs.Names.{is_name}
+use Rattle.tam_text.specs.Names.{is_name}
 use Rattle.tam_graph.specs.Graphs.{Code, Graph, graph_of, code_of, or_code}
 use Rattle.tam_graph.specs.Texts.{Line, Bytes, node_name, or_name, or_bytes, visit_line, end_line, code_lines}
 use Rattle.tam_graph.specs.Reading.{same_line, same_lines}
 use Rattle.tam_graph.specs.Written.{visits}
 use Rattle.tam_graph.proofs.Visited.{size, visits_of}
-use Rattle.tam_graph.proofs.SameBytes.{same_self}
+use Rattle.tam_text.proofs.SameBytes.{same_self}
 use Rattle.tam_read.specs.declared.form.Verb.{Verb}
 use Rattle.tam_read.specs.declared.form.Verb.TheVariants as verb
 use Rattle.tam_read.specs.declared.form.Role.{Role}

@@ -4,8 +4,8 @@ use Rattle.std.specs.Prelude.{codes as bytes_of, slice_get}
 use Rattle.tam_word.specs.Lists.{all_of}
 use Rattle.tam_word.proofs.Members.{In, left-in, right-in, in-append, in-get, get-in, all-in, in-map, map-in}
 use Rattle.tam_graph.specs.declared.node.Node.{Node}
-use Rattle.tam_graph.specs.Lines.{lines_of, words_of, token_lines}
-use Rattle.tam_graph.specs.Names.{is_name}
+use Rattle.tam_text.specs.Lines.{lines_of, words_of, token_lines}
+use Rattle.tam_text.specs.Names.{is_name}
 use Rattle.tam_graph.specs.Graphs.{Code, Graph, graph_of, code_of, or_code}
 use Rattle.tam_graph.specs.Texts.{Bytes, Line, graph_lines, code_lines}
 use Rattle.tam_graph.specs.Reading.{same_line, same_lines, is_named_right, IsCodeOfText, IsOfText, Reads}

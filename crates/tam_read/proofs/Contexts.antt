@@ -4,7 +4,7 @@ use Rattle.std.proofs.Common.{◌∙◌, true≢false, append_assoc, arith}
 use Rattle.std.proofs.lemmas.List.{map-append, append-nil}
 use Rattle.std.proofs.lemmas.List.Concat.{flat_map-cons}
 use Rattle.tam_word.specs.Lists.{where_so, any_of, same_bytes}
-use Rattle.tam_graph.specs.Lines.{words_of}
+use Rattle.tam_text.specs.Lines.{words_of}
 use Rattle.tam_read.specs.declared.cause.ReadCause.{ReadCause}
 use Rattle.tam_read.specs.declared.cause.ReadCause.TheVariants.{UnknownName, UnknownCode}
 use Rattle.tam_read.specs.declared.form.Verb.{Verb}

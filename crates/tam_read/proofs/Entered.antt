@@ -7,7 +7,7 @@ use Rattle.tam_word.proofs.Members.{In, left-in, right-in, in-append, in-map}
 use Rattle.tam_graph.specs.declared.node.Node.{Node}
 use Rattle.tam_graph.specs.Graphs.{Code}
 use Rattle.tam_graph.proofs.Visited.{size, opened}
-use Rattle.tam_graph.proofs.SameBytes.{same_equal}
+use Rattle.tam_text.proofs.SameBytes.{same_equal}
 use Rattle.tam_read.specs.declared.form.Verb.{Verb}
 use Rattle.tam_read.specs.declared.form.Verb.TheVariants as verb
 use Rattle.tam_read.specs.declared.form.Role.{Role}

@@ -5,7 +5,7 @@ use Rattle.std.proofs.Math.Dec.{leb}
 use Rattle.std.proofs.lemmas.List.Concat.{flat_map-cons}
 use Rattle.tam_word.specs.Lists.{where_so, all_of}
 use Rattle.tam_word.proofs.Members.{In}
-use Rattle.tam_graph.specs.Lines.{lines_of, words_of, is_some_of, is_at_end, is_good_byte, are_good_bytes}
+use Rattle.tam_text.specs.Lines.{lines_of, words_of, is_some_of, is_at_end, is_good_byte, are_good_bytes}
 use Rattle.tam_read.specs.declared.cause.ReadCause.{ReadCause}
 use Rattle.tam_read.specs.declared.cause.ReadCause.TheVariants.{BadByte, BadHead, BadLine, Ended}
 use Rattle.tam_read.specs.Sentences.{Sentence, sentence_of}

@@ -4,8 +4,8 @@ use Rattle.std.proofs.Common.{true≢false, arith, inl, inr, ◌⊎◌, ⊎_elim
 use Rattle.tam_word.specs.Lists.{where_so, all_of}
 use Rattle.tam_word.proofs.Members.{In, left-in, right-in, in-append, in-map, map-in, none-left, none-right, map-none}
 use Rattle.tam_word.proofs.Tests.{both-true, not-true}
-use Rattle.tam_graph.specs.Names.{is_name}
-use Rattle.tam_graph.specs.Lines.{lines_of, words_of}
+use Rattle.tam_text.specs.Names.{is_name}
+use Rattle.tam_text.specs.Lines.{lines_of, words_of}
 use Rattle.tam_read.specs.declared.cause.ReadCause.{ReadCause}
 use Rattle.tam_read.specs.declared.cause.ReadCause.TheVariants.{UnknownName, UnknownCode}
 use Rattle.tam_read.specs.declared.form.Role.{Role}

@@ -1,4 +1,3 @@
-pub mod LineLemmas
 pub mod Called
 pub mod Keeping
 pub mod Among

@@ -6,12 +6,12 @@ use Rattle.tam_word.specs.Numbers.{word_of, place_of}
 use Rattle.tam_word.proofs.Tests.{both-true, true-both, number-eq, eq-number}
 use Rattle.tam_graph.specs.declared.kind.Kind.{Kind}
 use Rattle.tam_graph.specs.declared.node.Node.{Node}
-use Rattle.tam_graph.specs.Names.{is_name}
+use Rattle.tam_text.specs.Names.{is_name}
 use Rattle.tam_graph.specs.Graphs.{Code, Graph}
 use Rattle.tam_graph.specs.Texts.{Token, Bytes, Line, tokens, is_named, or_bytes, suffix, node_line}
 use Rattle.tam_graph.specs.Reading.{is_token, same_line, is_named_right}
 use Rattle.tam_graph.specs.Written.{is_line}
-use Rattle.tam_graph.proofs.SameBytes.{same_equal}
+use Rattle.tam_text.proofs.SameBytes.{same_equal}
 use Rattle.tam_read.specs.declared.form.Verb.{Verb}
 use Rattle.tam_read.specs.declared.form.Role.{Role}
 use Rattle.tam_read.specs.declared.form.Role.TheVariants as role

@@ -14,7 +14,7 @@ use Rattle.tam_word.proofs.Spelled.{decimal_up_to-is}
 use Rattle.tam_graph.specs.declared.kind.Kind.{Kind}
 use Rattle.tam_graph.specs.declared.kind.Kind.TheVariants as kind
 use Rattle.tam_graph.specs.declared.node.Node.{Node}
-use Rattle.tam_graph.specs.Names.{is_name}
+use Rattle.tam_text.specs.Names.{is_name}
 use Rattle.tam_graph.specs.Graphs.{Code, kind_at, depth_at, or_kind, or_depth, node_numbers}
 use Rattle.tam_graph.specs.Texts.{is_named, or_bytes}
 use Rattle.tam_graph.specs.Written.{is_operand, is_call_node, is_cond_node, is_line, greatest_depth}

@@ -6,7 +6,7 @@ use Rattle.std.proofs.lemmas.List.Concat.{flat_map-cons}
 use Rattle.tam_word.specs.Lists.{any_of, same_bytes}
 use Rattle.tam_word.proofs.Tests.{both-true}
 use Rattle.tam_word.proofs.Members.{In, any-in, flat_map-in}
-use Rattle.tam_graph.proofs.SameBytes.{same_equal, same_self}
+use Rattle.tam_text.proofs.SameBytes.{same_equal, same_self}
 use Rattle.tam_read.specs.declared.form.Verb.{Verb}
 use Rattle.tam_read.specs.declared.form.Verb.TheVariants as verb
 use Rattle.tam_read.specs.declared.form.Role.{Role}

@@ -9,10 +9,10 @@ use Rattle.tam_word.specs.Numbers.{some_if}
 use Rattle.tam_word.proofs.Members.{In, left-in, right-in, in-append, any-in}
 use Rattle.tam_word.proofs.Tests.{both-true, number-eq}
 use Rattle.tam_graph.specs.declared.node.Node.{Node}
-use Rattle.tam_graph.specs.Names.{is_name}
+use Rattle.tam_text.specs.Names.{is_name}
 use Rattle.tam_graph.specs.Graphs.{Code}
 use Rattle.tam_graph.specs.Reading.{given_names, names_in}
-use Rattle.tam_graph.proofs.SameBytes.{same_equal}
+use Rattle.tam_text.proofs.SameBytes.{same_equal}
 use Rattle.tam_graph.proofs.Visited.{opened}
 use Rattle.tam_read.specs.declared.cause.Limit.TheVariants.{Codes}
 use Rattle.tam_read.specs.declared.form.Verb.{Verb}

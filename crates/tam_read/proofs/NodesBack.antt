@@ -9,12 +9,12 @@ use Rattle.tam_word.proofs.Tests.{both-true}
 use Rattle.tam_graph.specs.declared.kind.Kind.{Kind}
 use Rattle.tam_graph.specs.declared.kind.Kind.TheVariants as kind
 use Rattle.tam_graph.specs.declared.node.Node.{Node}
-use Rattle.tam_graph.specs.Names.{is_name}
+use Rattle.tam_text.specs.Names.{is_name}
 use Rattle.tam_graph.specs.Graphs.{Code, Graph, kind_at, block_at, or_kind, or_block}
 use Rattle.tam_graph.specs.Texts.{or_name, or_bytes}
 use Rattle.tam_graph.specs.Reading.{is_token, same_line, IsCode}
 use Rattle.tam_graph.specs.Finding.{name_of, name_at}
-use Rattle.tam_graph.proofs.SameBytes.{same_equal, same_self}
+use Rattle.tam_text.proofs.SameBytes.{same_equal, same_self}
 use Rattle.tam_graph.proofs.NodeNames.{one-node}
 use Rattle.tam_graph.proofs.Visited.{Items, size, opened, is_plain}
 use Rattle.tam_read.specs.declared.form.Verb.{Verb}

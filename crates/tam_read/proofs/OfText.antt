@@ -5,7 +5,7 @@ use Rattle.std.specs.Prelude.{slice_get, codes as bytes_of}
 use Rattle.std.specs.List.{filter}
 use Rattle.tam_word.specs.Lists.{all_differ, same_bytes}
 use Rattle.tam_word.proofs.Members.{In, get-in}
-use Rattle.tam_graph.specs.Lines.{lines_of, words_of, token_lines, is_some_of, are_good_bytes}
+use Rattle.tam_text.specs.Lines.{lines_of, words_of, token_lines, is_some_of, are_good_bytes}
 use Rattle.tam_graph.specs.Graphs.{Code, Graph, graph_of, code_of, or_code}
 use Rattle.tam_graph.specs.Texts.{Line, Bytes, graph_lines, code_lines}
 use Rattle.tam_graph.specs.Written.{IsWritten}

@@ -5,7 +5,7 @@ use Rattle.std.specs.List.{filter}
 use Rattle.std.proofs.lemmas.List.Concat.{flat_map-cons}
 use Rattle.std.proofs.lemmas.Slice.Eq.{bytes_eq-Decides}
 use Rattle.tam_word.specs.Lists.{where_so, same_list, same_bytes}
-use Rattle.tam_graph.specs.Lines.{words_of, are_good_bytes, is_some_of}
+use Rattle.tam_text.specs.Lines.{words_of, are_good_bytes, is_some_of}
 use Rattle.tam_read.specs.declared.cause.ReadCause.{ReadCause}
 use Rattle.tam_read.specs.declared.cause.ReadCause.TheVariants.{BadByte, BadHead, BadLine, Ended}
 use Rattle.tam_read.specs.declared.form.Verb.{Verb}
@@ -14,7 +14,7 @@ use Rattle.tam_read.specs.Faults.{said, is_head, faults_of_sentence, faults_of_w
 use Rattle.tam_read.specs.Kept.{Kept, kept_of, counted}
 use Rattle.tam_read.specs.Passing.{Read, read_of, faults_said, kept_said, faults_read, read_behind, faults_line, faults_end, faults_lines}
 use Rattle.tam_read.proofs.Keeping.{faults_kept-of, kept_behind-of}
-use Rattle.tam_read.proofs.Called.{same_bytes_is}
+use Rattle.tam_text.proofs.SameBytes.{same_bytes_is}
 
 -- ---- a line has one sentence at most
 

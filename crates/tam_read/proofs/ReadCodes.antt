@@ -2,7 +2,7 @@
 use Rattle.std.proofs.Common.{◌≡◌, ℕ, zero, suc, ◌+◌, ◌≤◌, Bool, true, false, List, [], ◌∷◌, ◌++◌, length, map, flat_map, None, refl, sym, ap, ap₂, subst}
 use Rattle.std.proofs.Common.{◌∙◌, true≢false, append_assoc, arith}
 use Rattle.std.proofs.lemmas.List.{map-append, append-nil}
-use Rattle.tam_graph.specs.Lines.{lines_of, words_of}
+use Rattle.tam_text.specs.Lines.{lines_of, words_of}
 use Rattle.tam_graph.specs.Graphs.{Code}
 use Rattle.tam_read.specs.declared.form.Verb.{Verb}
 use Rattle.tam_read.specs.declared.form.Verb.TheVariants as verb

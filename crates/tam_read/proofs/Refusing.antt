@@ -1,7 +1,7 @@
 -- What the two passes find is the first fault of the text.
 use Rattle.std.proofs.Common.{◌≡◌, ℕ, ◌+◌, List, [], ◌∷◌, map, take, Option, Some, None, refl, sym, ap, subst, ◌∙◌}
 use Rattle.std.specs.Prelude.{option_to_list}
-use Rattle.tam_graph.specs.Lines.{lines_of}
+use Rattle.tam_text.specs.Lines.{lines_of}
 use Rattle.tam_read.specs.declared.cause.ReadCause.{ReadCause}
 use Rattle.tam_read.specs.declared.first_pass.Fault.{Fault}
 use Rattle.tam_read.specs.declared.line.Line.{Line}

@@ -5,7 +5,7 @@ use Rattle.std.specs.Str.{bytes_eq}
 use Rattle.std.proofs.lemmas.List.{reverse-append}
 use Rattle.indexmap.specs.IndexSet.{insert_key}
 use Rattle.tam_word.specs.Lists.{any_of, same_bytes}
-use Rattle.tam_graph.proofs.SameBytes.{same_bytes_is}
+use Rattle.tam_text.proofs.SameBytes.{same_bytes_is}
 use Rattle.tam_read.specs.SaidView.{texts}
 use Rattle.tam_read.specs.Faults.{some_shared}
 use Rattle.tam_read.proofs.Among.{any_of-reverse}

@@ -9,11 +9,11 @@ use Rattle.tam_word.proofs.Spelled.{decimal_up_to-is}
 use Rattle.tam_graph.specs.declared.kind.Kind.{Kind}
 use Rattle.tam_graph.specs.declared.kind.Kind.TheVariants as kind
 use Rattle.tam_graph.specs.declared.node.Node.{Node}
-use Rattle.tam_graph.specs.Names.{is_name}
+use Rattle.tam_text.specs.Names.{is_name}
 use Rattle.tam_graph.specs.Graphs.{Code, Graph, code_of, kind_at, depth_at, or_kind, or_depth}
 use Rattle.tam_graph.specs.Texts.{Token, Bytes, Number, Line, node_name, or_name, or_bytes, tokens, is_named, suffix, node_line, spells}
 use Rattle.tam_graph.specs.Reading.{is_token, same_line}
-use Rattle.tam_graph.proofs.SameBytes.{same_self}
+use Rattle.tam_text.proofs.SameBytes.{same_self}
 use Rattle.tam_read.specs.declared.form.Verb.{Verb}
 use Rattle.tam_read.specs.declared.form.Verb.TheVariants as verb
 use Rattle.tam_read.specs.declared.form.Role.{Role}

@@ -8,7 +8,7 @@ use Rattle.std.proofs.lemmas.List.{map-append}
 use Rattle.std.specs.Str.{bytes_eq}
 use Rattle.std.specs.Map.{lookup}
 use Rattle.tam_word.specs.Lists.{same_bytes}
-use Rattle.tam_graph.proofs.SameBytes.{same_bytes_is}
+use Rattle.tam_text.proofs.SameBytes.{same_bytes_is}
 use Rattle.tam_read.specs.declared.table.Made.{Made}
 use Rattle.tam_read.specs.Tables.{Entries, found, with_entry, put_in}
 

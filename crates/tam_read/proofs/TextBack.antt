@@ -7,13 +7,13 @@ use Rattle.std.proofs.lemmas.List.Concat.{flat_map-cons, flat_map-append}
 use Rattle.tam_word.specs.Lists.{all_of, any_of, all_differ, same_bytes, below}
 use Rattle.tam_word.proofs.Members.{In, left-in, right-in, in-append, in-get, all-in, below-in, in-any, get-in, in-map}
 use Rattle.tam_graph.specs.declared.node.Node.{Node}
-use Rattle.tam_graph.specs.Lines.{lines_of, words_of, token_lines, are_good_bytes}
-use Rattle.tam_graph.specs.Names.{is_name}
+use Rattle.tam_text.specs.Lines.{lines_of, words_of, token_lines, are_good_bytes}
+use Rattle.tam_text.specs.Names.{is_name}
 use Rattle.tam_graph.specs.Graphs.{Code, Graph, graph_of, code_of, or_code, main_among, blocks_of, owner_of, one_or_none}
 use Rattle.tam_graph.specs.Texts.{Bytes, Line, graph_lines, code_lines}
 use Rattle.tam_graph.specs.Written.{depth_of_block, number_of_vertices}
 use Rattle.tam_graph.specs.Reading.{same_line, same_lines, is_named_right, names_in, given_names, IsCode, IsCodeOfText, IsOfText, Reads}
-use Rattle.tam_graph.proofs.SameBytes.{same_self, same_equal}
+use Rattle.tam_text.proofs.SameBytes.{same_self, same_equal}
 use Rattle.tam_graph.proofs.NodeNames.{differ-behind}
 use Rattle.tam_graph.proofs.Visited.{size, opened}
 use Rattle.tam_read.specs.declared.form.Verb.TheVariants as verb

@@ -9,7 +9,7 @@ use Rattle.std.proofs.lemmas.List.Concat.{flat_map-cons}
 use Rattle.tam_word.specs.Lists.{where_so, same_list, same_bytes, all_of}
 use Rattle.tam_word.proofs.Members.{In, in-append, none-left, none-right, map-none}
 use Rattle.tam_word.proofs.Tests.{true-both}
-use Rattle.tam_graph.specs.Lines.{lines_of, words_of, token_lines, is_some_of, is_at_end, is_good_byte, are_good_bytes}
+use Rattle.tam_text.specs.Lines.{lines_of, words_of, token_lines, is_some_of, is_at_end, is_good_byte, are_good_bytes}
 use Rattle.tam_graph.specs.Texts.{Line, Bytes}
 use Rattle.tam_graph.specs.Reading.{same_line, same_lines}
 use Rattle.tam_read.specs.declared.cause.ReadCause.{ReadCause}

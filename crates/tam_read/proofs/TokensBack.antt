@@ -12,12 +12,12 @@ use Rattle.tam_word.proofs.Spelled.{decimal_up_to-again}
 use Rattle.tam_graph.specs.declared.kind.Kind.{Kind}
 use Rattle.tam_graph.specs.declared.kind.Kind.TheVariants as kind
 use Rattle.tam_graph.specs.declared.node.Node.{Node}
-use Rattle.tam_graph.specs.Names.{is_name, is_letter, continues_name}
+use Rattle.tam_text.specs.Names.{is_name, is_letter, continues_name}
 use Rattle.tam_graph.specs.Graphs.{Code, Graph, code_of, kind_at, or_kind}
 use Rattle.tam_graph.specs.Texts.{node_name, or_name, or_bytes, is_named, suffix, spells}
 use Rattle.tam_graph.specs.Written.{is_operand, is_call_node, is_cond_node}
 use Rattle.tam_graph.specs.Reading.{is_token, is_named_right}
-use Rattle.tam_graph.proofs.SameBytes.{same_equal}
+use Rattle.tam_text.proofs.SameBytes.{same_equal}
 use Rattle.tam_read.specs.declared.form.Verb.{Verb}
 use Rattle.tam_read.specs.declared.form.Role.{Role}
 use Rattle.tam_read.specs.declared.form.Role.TheVariants as role

@@ -12,7 +12,7 @@ use Rattle.tam_graph.specs.Texts.{Token, Bytes, Line, visit_line, end_line, node
 use Rattle.tam_graph.specs.Reading.{same_line, same_lines}
 use Rattle.tam_graph.specs.Written.{Visit, AtNode, AtElse, AtEnd}
 use Rattle.tam_graph.proofs.Visited.{Items, Plain as PlainItem, Branch as SplitItem, size, opened, is_plain}
-use Rattle.tam_graph.proofs.SameBytes.{same_equal}
+use Rattle.tam_text.proofs.SameBytes.{same_equal}
 use Rattle.tam_read.specs.declared.form.Verb.{Verb}
 use Rattle.tam_read.specs.declared.form.Verb.TheVariants as verb
 use Rattle.tam_read.specs.Sentences.{Sentence, verb_text}

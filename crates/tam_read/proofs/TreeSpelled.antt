@@ -13,7 +13,7 @@ use Rattle.tam_graph.specs.Texts.{Line, Bytes, visit_line, end_line}
 use Rattle.tam_graph.specs.Reading.{same_line, same_lines}
 use Rattle.tam_graph.specs.Written.{Visit, AtNode, AtElse, AtEnd}
 use Rattle.tam_graph.proofs.Visited.{Items, size, opened, visits_of, is_plain}
-use Rattle.tam_graph.proofs.SameBytes.{same_self}
+use Rattle.tam_text.proofs.SameBytes.{same_self}
 use Rattle.tam_read.specs.declared.form.Verb.{Verb}
 use Rattle.tam_read.specs.declared.form.Verb.TheVariants as verb
 use Rattle.tam_read.specs.Sentences.{Sentence, has_form, verb_text, roles_of, names_made}

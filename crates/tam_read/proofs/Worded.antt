@@ -10,7 +10,7 @@ use Rattle.tam_word.specs.Lists.{first_of, same_bytes}
 use Rattle.tam_word.proofs.Members.{one-first}
 use Rattle.tam_word.proofs.Tests.{both-true, number-eq}
 use Rattle.tam_graph.specs.Texts.{suffix}
-use Rattle.tam_graph.proofs.SameBytes.{same_equal}
+use Rattle.tam_text.proofs.SameBytes.{same_equal}
 use Rattle.tam_read.specs.declared.form.Verb.{Verb}
 use Rattle.tam_read.specs.declared.form.Role.{Role}
 use Rattle.tam_read.specs.declared.form.Role.TheVariants as role

@@ -3,8 +3,8 @@
 use Rattle.std.specs.Prelude.{ℕ, ◌+◌, Bool, true, false, ◌&&◌, ◌||◌, not, ◌==◌, nat_lt, List, [], ◌∷◌, ◌++◌, length, map, codes, flat_map, filter, count_by}
 use Rattle.std.specs.Prelude.{Some, None, take}
 use Rattle.tam_word.specs.Lists.{all_of, any_of, where_so, same_list, same_bytes}
-use Rattle.tam_graph.specs.Lines.{lines_of, words_of, are_good_bytes, is_some_of}
-use Rattle.tam_graph.specs.Names.{is_name}
+use Rattle.tam_text.specs.Lines.{lines_of, words_of, are_good_bytes, is_some_of}
+use Rattle.tam_text.specs.Names.{is_name}
 use Rattle.tam_read.specs.declared.cause.ReadCause.{ReadCause}
 use Rattle.tam_read.specs.declared.cause.ReadCause.TheVariants.{BadByte, BadHead, BadLine, BadName, BadNumber, BadNesting, TwiceNamed, TooMany, Ended}
 use Rattle.tam_read.specs.declared.cause.ReadCause.TheVariants.{UnknownName, UnknownCode}

@@ -1,7 +1,7 @@
 -- The codes of a text's lines: each with its own lines, and what is built of them.
 use Rattle.std.specs.Prelude.{ℕ, true, false, List, [], ◌∷◌, ◌++◌, map}
 use Rattle.tam_graph.specs.Graphs.{Code}
-use Rattle.tam_graph.specs.Lines.{lines_of}
+use Rattle.tam_text.specs.Lines.{lines_of}
 use Rattle.tam_read.specs.declared.cause.ReadCause.{ReadCause}
 use Rattle.tam_read.specs.Sentences.{Sentence, is_code, code_begun}
 use Rattle.tam_read.specs.Faults.{sayings, said_from}

@@ -5,7 +5,7 @@ use Rattle.tam_word.specs.Numbers.{word_of, place_of}
 use Rattle.tam_word.specs.declared.op.Op.{Op}
 use Rattle.tam_word.specs.declared.op.Op.TheVariants.{Add, Sub, Mul, Div, Divu, Rem, Remu, And, Or, Xor, Sll, Srl, Sra, Slt, Sltu, Eq}
 use Rattle.tam_word.specs.OpNames.{op_name}
-use Rattle.tam_graph.specs.Names.{is_name}
+use Rattle.tam_text.specs.Names.{is_name}
 use Rattle.tam_read.specs.declared.form.Verb.{Verb}
 use Rattle.tam_read.specs.declared.form.Verb.TheVariants as verb
 use Rattle.tam_read.specs.declared.form.Role.{Role}

@@ -2,13 +2,14 @@
 ghost use Rattle.std.specs.Prelude.{◌≡◌, ◌∷◌, []};
 ghost use Rattle.tam_read.specs.Sentences.{is_name_for, is_number_for, each_token, names_made};
 ghost use Rattle.tam_word.specs.Lists.{all_of};
-ghost use Rattle.tam_graph.specs.Names.{is_name};
+ghost use Rattle.tam_text.specs.Names.{is_name};
 ghost use Rattle.tam_read.specs.Faults.{has_bad_name, has_bad_number};
 ghost use Rattle.tam_read.specs.SaidView.{seen, texts};
 
 use crate::form::{Role, roles_of};
-use crate::names::{is_name, name_made};
+use crate::names::name_made;
 use crate::said::Said;
+use tam_text::is_name;
 use tam_word::{read_number, read_word};
 
 pub const MAX_PLACE: u32 = 63;

@@ -15,7 +15,6 @@ mod first_pass;
 mod form;
 mod keep;
 mod line;
-mod lines;
 mod names;
 mod naming;
 mod node;
@@ -29,7 +28,6 @@ mod said;
 mod table;
 #[cfg(test)]
 mod tests;
-mod words;
 
 pub use cause::{Limit, ReadCause};
 pub use placed::Lines;

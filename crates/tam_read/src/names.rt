@@ -1,25 +1,10 @@
 // Names in a text.
 ghost use Rattle.std.specs.Prelude.{◌≡◌, ◌∷◌, [], codes, map, option_to_list};
 ghost use Rattle.tam_word.specs.Lists.{all_of, same_bytes};
-ghost use Rattle.tam_graph.specs.Names.{is_name};
+ghost use Rattle.tam_text.specs.Names.{is_name};
 ghost use Rattle.tam_read.specs.Sentences.{has_depth, without_depth, name_made};
 
 use crate::form::{Role, Verb, makes};
-use tam_graph::Name;
-
-/// Whether the bytes are the same.
-pub fn is_same(first: &[u8], second: &[u8]) -> bool
-    ensures { result ≡ same_bytes first.now second.now }
-{
-    first == second
-}
-
-/// Whether the bytes are a name.
-pub fn is_name(bytes: &[u8]) -> bool
-    ensures { result ≡ is_name bytes.now }
-{
-    Name::of(bytes).is_some()
-}
 
 // Whether a depth stands at the end.
 pub fn has_depth(token: &[u8]) -> bool

@@ -57,6 +57,7 @@ pub fn read(alloc: Global, text: &[u8]) -> Result<Found, Refused>
     ensures reads { IfOk result (λ found. Reads text.now found.graph) }
     ensures lines { IfOk result (λ found. found.lines ≡ lines_in text.now) }
     ensures refused { IfErr result (IsFirst (faults text.now)) }
+    ensures faultless { IfOk result (λ _. faults text.now ≡ []) }
 
     // A text that reads as a graph reads as that graph alone, and only want of memory refuses it.
     ensures complete { (g : GraphRecord) → Reads text.now g → MatchResult result (λ found. found.graph ≡ g) (λ e. e ≡ NoMemory) }

@@ -1,5 +1,5 @@
 use Rattle.std.proofs.Common.{sym, ◌∙◌}
-use Rattle.tam_graph.proofs.SameBytes.{same_bytes_is}
+use Rattle.tam_text.proofs.SameBytes.{same_bytes_is}
 use Rattle.tam_form.proofs.line.is_same.Goals as goal
 
 pub returns : goal.returns

@@ -1,5 +1,5 @@
 use Rattle.std.proofs.Common.{◌≡◌, [], map, ap, ◌∙◌}
-use Rattle.tam_graph.specs.Lines.{lines_of}
+use Rattle.tam_text.specs.Lines.{lines_of}
 use Rattle.tam_read.specs.Faults.{first_pass, last_line, said_from}
 use Rattle.tam_read.specs.LineView.{numbered}
 use Rattle.tam_read.proofs.Refusing.{nothing-found, no-fault, first-of-second}

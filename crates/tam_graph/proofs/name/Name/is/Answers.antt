@@ -1,6 +1,6 @@
 use Rattle.std.proofs.Common.{◌∙◌, ap, sym}
 use Rattle.std.specs.Str.{bytes_eq}
-use Rattle.tam_graph.proofs.SameBytes.{same_bytes_is}
+use Rattle.tam_text.proofs.SameBytes.{same_bytes_is}
 use Rattle.tam_graph.proofs.name.Name.is.Goals as goal
 
 pub returns : goal.returns

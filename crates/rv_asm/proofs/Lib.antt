@@ -1,0 +1,6 @@
+pub mod Called
+pub mod Cutting
+pub mod Forms
+pub mod Labelled
+pub mod Looping
+pub mod Soundness

@@ -1,10 +1,11 @@
 -- What the lines of a text say, line by line, and the faults of a text.
 -- A text assembles exactly where it has none, and is refused at the first.
-use Rattle.std.specs.Prelude.{ℕ, ◌+◌, ◌-◌, ◌*◌, ◌^◌, Bool, true, false, not, ◌&&◌, ◌==◌, nat_le, List, [], ◌∷◌, ◌++◌, length, map, count_by, take, is_some}
+use Rattle.std.specs.Prelude.{ℕ, ◌+◌, Bool, true, false, not, ◌&&◌, ◌==◌, nat_le, List, [], ◌∷◌, ◌++◌, length, map, count_by, take, is_some}
 use Rattle.std.specs.Prelude.{◌≡◌, Option, Some, None, Result, Ok, Err}
 use Rattle.std.specs.Option.{ok_or}
 use Rattle.tam_word.specs.Lists.{where_so, same_bytes}
-use Rattle.tam_word.specs.Words.{wrapped}
+use Rattle.tam_word.specs.declared.op.Op.TheVariants.{Mul, Sub}
+use Rattle.tam_word.specs.Words.{meaning}
 use Rattle.tam_text.specs.Lines.{lines_of, without_comment, are_good_bytes, is_some_of}
 use Rattle.rv_inst.specs.Instructions.{encoded}
 use Rattle.rv_image.specs.declared.image.TheConstants.{MAX_WORDS, MIN_STRIDE}
@@ -65,11 +66,14 @@ with_statement n (Err c) s = s
 with_statement n (Ok (Label name)) s = record s { labels = s.labels ++ (name, length s.words) ∷ [] }
 with_statement n (Ok (Coded c)) s = record s { words = s.words ++ (n, c) ∷ [] }
 
--- line n by its tokens; a line without tokens says nothing
+-- line n behind the head; a line without tokens says nothing
+abbrev pub with_body : ℕ → List (List ℕ) → Said → Said
+with_body n [] s = s
+with_body n (t ∷ ts) s = with_statement n (statement_of (t ∷ ts)) s
+
+-- line n by its tokens
 abbrev pub with_tokens : ℕ → List (List ℕ) → Said → Said
-with_tokens n [] s = s
-with_tokens n (t ∷ ts) s =
-    elim (is_body s.next) [ true ↦ with_statement n (statement_of (t ∷ ts)) s | false ↦ with_head (head_number s.next (t ∷ ts)) s ]
+with_tokens n ts s = elim (is_body s.next) [ true ↦ with_body n ts s | false ↦ with_head (head_number s.next ts) s ]
 
 -- the lines from number n on
 abbrev pub said_from : Said → ℕ → List (List ℕ) → Said
@@ -120,7 +124,7 @@ first_pass last s n (line ∷ lines) = map (λ c. (n, c)) (faults_of_line s line
 
 -- the bytes from a word to a label, by the numbers of words before them, as a word
 abbrev pub distance : ℕ → ℕ → ℕ
-distance at to = wrapped (4 * to + (2 ^ 32 - 4 * at))
+distance at to = meaning Mul (meaning Sub to at) 4
 
 -- the word of the code behind so many words, or why it has none
 abbrev pub word_at : Labels → ℕ → Code → Result ℕ AsmCause

@@ -6,4 +6,6 @@ pub mod Head
 pub mod StatementView
 pub mod Faults
 pub mod Reading
+pub mod Sound
+pub mod PassView
 pub mod AsmExamples

@@ -35,3 +35,8 @@ parts p = (p.0.now, p.1.now)
 -- one
 abbrev pub text_of : Bor (List ℕ) → List ℕ
 text_of t = t.now
+
+-- a code or why there is none, as a line
+abbrev pub coded : Result CodeAt AsmCause → Result Statement AsmCause
+coded (Ok c) = Ok (Coded (code_seen c))
+coded (Err e) = Err e

@@ -161,12 +161,16 @@ with_three v a b c = then_read (register_of a) (λ x. then_read (register_of b) 
 abbrev pub is_comma_token : List ℕ → Bool
 is_comma_token t = same_bytes t (codes ",")
 
+-- what is said, where the token between operands is a comma
+abbrev pub with_comma : List ℕ → Result Statement AsmCause → Result Statement AsmCause
+with_comma t said = elim (is_comma_token t) [ true ↦ said | false ↦ Err BadLine ]
+
 -- a verb and the tokens behind it: operands, with commas between them
 abbrev pub said_by : Verb → List (List ℕ) → Result Statement AsmCause
 said_by v [] = with_none v
 said_by v (a ∷ []) = with_one v a
-said_by v (a ∷ c ∷ b ∷ []) = elim (is_comma_token c) [ true ↦ with_two v a b | false ↦ Err BadLine ]
-said_by v (a ∷ c ∷ b ∷ d ∷ e ∷ []) = elim (is_comma_token c && is_comma_token d) [ true ↦ with_three v a b e | false ↦ Err BadLine ]
+said_by v (a ∷ c ∷ b ∷ []) = with_comma c (with_two v a b)
+said_by v (a ∷ c ∷ b ∷ d ∷ e ∷ []) = with_comma c (with_comma d (with_three v a b e))
 said_by v others = Err BadLine
 
 -- by the verb, where there is one
@@ -178,6 +182,11 @@ said_if (Some v) ts = said_by v ts
 abbrev pub label_of : List ℕ → Option (List ℕ)
 label_of t = elim (before_last 58 t) [ None ↦ None | Some n ↦ elim (is_name n) [ true ↦ Some n | false ↦ None ] ]
 
+-- and nothing stands behind it
+abbrev pub label_in : List ℕ → List (List ℕ) → Option (List ℕ)
+label_in t [] = label_of t
+label_in t (a ∷ ts) = None
+
 -- the label, or what is said else
 abbrev pub label_or : Option (List ℕ) → Result Statement AsmCause → Result Statement AsmCause
 label_or None other = other
@@ -186,5 +195,4 @@ label_or (Some n) other = Ok (Label n)
 -- what tokens say, or why they say nothing
 abbrev pub statement_of : List (List ℕ) → Result Statement AsmCause
 statement_of [] = Err BadLine
-statement_of (t ∷ []) = label_or (label_of t) (said_if (verb_called t) [])
-statement_of (t ∷ a ∷ ts) = said_if (verb_called t) (a ∷ ts)
+statement_of (t ∷ ts) = label_or (label_in t ts) (said_if (verb_called t) ts)

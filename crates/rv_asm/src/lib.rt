@@ -6,17 +6,24 @@
 #![tactic(auto)]
 
 mod asm_error;
+mod assembler;
+mod first_pass;
+mod form;
 mod head;
 mod inst_name;
 mod jump;
 mod operand;
 mod operand_reader;
+mod pass;
 mod printer;
 mod ranges;
+mod second_pass;
 mod statement;
 mod tokens;
 mod verb;
 
 pub use asm_error::{AsmCause, AsmError};
+pub use assembler::assemble;
+
 pub use operand::Operand;
 pub use printer::print_asm;

@@ -93,8 +93,10 @@ pub fn verb_text(verb: Verb) -> &'static [u8]
 pub fn verb_called(token: &[u8]) -> Option<Verb>
     ensures value { result ≡ verb_called token.now }
 {
-    VERBS
-        .iter()
-        .find(|verb| is_same(token, verb_text(**verb)))
-        .copied()
+    for verb in &VERBS {
+        if is_same(token, verb_text(*verb)) {
+            return Some(*verb);
+        }
+    }
+    None
 }

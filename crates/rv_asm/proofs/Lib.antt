@@ -4,3 +4,4 @@ pub mod Forms
 pub mod Labelled
 pub mod Looping
 pub mod Soundness
+pub mod Assembled

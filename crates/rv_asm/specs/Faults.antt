@@ -160,9 +160,14 @@ first_faults text = first_pass (last_line text) nothing_said 1 (lines_of text)
 abbrev pub second_faults : List ℕ → List (ℕ × AsmCause)
 second_faults text = second_pass (said_in text).labels 0 (said_in text).words
 
+-- the first faults, or where there are none, the others
+abbrev pub faults_or : List (ℕ × AsmCause) → List (ℕ × AsmCause) → List (ℕ × AsmCause)
+faults_or [] others = others
+faults_or (f ∷ fs) others = f ∷ fs
+
 -- the faults of a text: those of the second pass where the first has none
 abbrev pub asm_faults : List ℕ → List (ℕ × AsmCause)
-asm_faults text = elim (first_faults text) [ [] ↦ second_faults text | f ∷ fs ↦ f ∷ fs ]
+asm_faults text = faults_or (first_faults text) (second_faults text)
 
 -- the error tells the first of the faults, or that there was no memory
 abbrev pub IsFirst : List (ℕ × AsmCause) → AsmError → Type 0

@@ -6,8 +6,9 @@ use Rattle.tam_text.specs.Lines.{lines_of, are_good_bytes}
 use Rattle.rv_inst.specs.Images.{Image}
 use Rattle.rv_image.specs.ImageFiles.{IsImage}
 use Rattle.rv_asm.specs.declared.asm_error.AsmCause.{AsmCause}
+use Rattle.rv_asm.specs.declared.head.Next.{Next}
 use Rattle.rv_asm.specs.declared.head.Next.TheVariants as next
-use Rattle.rv_asm.specs.Head.{head_number}
+use Rattle.rv_asm.specs.Head.{head_number, behind}
 use Rattle.rv_asm.specs.Tokens.{token_lines}
 use Rattle.rv_asm.specs.Statements.{Code, Statement, Label, Coded, statement_of}
 use Rattle.rv_asm.specs.Faults.{Labels, word_at}
@@ -29,19 +30,25 @@ abbrev pub words_at : Labels → ℕ → List Code → List (Result ℕ AsmCause
 words_at labels at [] = []
 words_at labels at (c ∷ cs) = word_at labels at c ∷ words_at labels (at + 1) cs
 
--- four head lines with the image's numbers, and lines that say the statements
-abbrev pub AreLines : Image → List Statement → List (List (List ℕ)) → Type 0
-AreLines image ss (a ∷ b ∷ c ∷ d ∷ lines) =
-    (head_number next.Image a ≡ Some 1) × (head_number next.Stride b ≡ Some image.stride) × (head_number next.Params c ≡ Some image.params)
-    × (head_number next.Results d ≡ Some image.results)
-    × (map statement_of lines ≡ map Ok ss)
-AreLines image ss lines = ⊥
+-- the number in a head line of an image
+abbrev pub number_in : Next → Image → ℕ
+number_in next.Image image = 1
+number_in next.Stride image = image.stride
+number_in next.Params image = image.params
+number_in next.Results image = image.results
+number_in next.Body image = 0
+
+-- the head lines from the next on, with the image's numbers, and lines that say the statements
+abbrev pub AreLines : Image → List Statement → Next → List (List (List ℕ)) → Type 0
+AreLines image ss next.Body lines = map statement_of lines ≡ map Ok ss
+AreLines image ss k [] = ⊥
+AreLines image ss k (a ∷ lines) = (head_number k a ≡ Some (number_in k image)) × AreLines image ss (behind k) lines
 
 -- the text assembles to the image
 pub record AsmReads (text : List ℕ) (image : Image) : Type 0 where
   pub statements : List Statement
   pub good : all_of are_good_bytes (lines_of text) ≡ true
-  pub lines : AreLines image statements (token_lines text)
+  pub lines : AreLines image statements next.Image (token_lines text)
   pub labels_differ : all_differ same_bytes (map (λ l. l.0) (labels_from 0 statements)) ≡ true
   pub words : words_at (labels_from 0 statements) 0 (codes_in statements) ≡ map Ok image.words
   pub in_range : IsImage image

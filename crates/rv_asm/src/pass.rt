@@ -174,6 +174,23 @@ fn put_statement<'t>(
     }
 }
 
+// A statement of a line, where nothing is wrong with it.
+fn statement_said<'t>(
+    pass: &mut Pass<'t>,
+    line: u32,
+    statement: &Statement<'t>,
+) -> Result<Option<AsmCause>, AllocError>
+    requires few { length pass.old.words.items ≤ MAX_WORDS }
+    ensures cause { IfOk result (λ r. option_to_list r ≡ take 1 (faults_of_statement (said pass.old) (Ok (seen statement.now)))) }
+    ensures said { IfOk result (λ r. IfNone r (said pass.new ≡ with_statement line (Ok (seen statement.now)) (said pass.old))) }
+{
+    if let Some(cause) = statement_cause(pass, statement) {
+        return Ok(Some(cause));
+    }
+    put_statement(pass, line, statement)?;
+    Ok(None)
+}
+
 // A line with tokens behind the head.
 fn statement_line<'t>(
     pass: &mut Pass<'t>,
@@ -186,13 +203,7 @@ fn statement_line<'t>(
 {
     match statement_of(tokens) {
         Err(cause) => Ok(Some(cause)),
-        Ok(statement) => {
-            if let Some(cause) = statement_cause(pass, &statement) {
-                return Ok(Some(cause));
-            }
-            put_statement(pass, line, &statement)?;
-            Ok(None)
-        }
+        Ok(statement) => statement_said(pass, line, &statement),
     }
 }
 

@@ -5,3 +5,7 @@ pub mod Labelled
 pub mod Looping
 pub mod Soundness
 pub mod Assembled
+pub mod Differ
+pub mod Rows
+pub mod Numbers
+pub mod LinesRead

@@ -9,3 +9,6 @@ pub mod Differ
 pub mod Rows
 pub mod Numbers
 pub mod LinesRead
+pub mod LinesBack
+pub mod TextsRead
+pub mod ImagesRead

@@ -16,8 +16,12 @@ use std::alloc::Global;
 /// docs/FORMATS.md, "Assembly text".
 pub fn assemble(alloc: Global, text: &[u8]) -> Result<Image, AsmError>
     requires { length text.now ≤ 4294967294 }
+    ensures reads { IfOk result (λ image. AsmReads text.now image) }
     ensures faultless { OnOk result (asm_faults text.now ≡ []) }
     ensures refused { IfErr result (IsFirst (asm_faults text.now)) }
+
+    // A text that reads as an image assembles to that image alone, and only want of memory refuses it.
+    ensures complete { (image : MachineCode) → AsmReads text.now image → MatchResult result (λ made. made ≡ image) (λ e. e ≡ NoMemory) }
 {
     let pass = match first_pass(alloc, text) {
         Ok(pass) => pass,

@@ -1,0 +1,14 @@
+pub mod Called
+pub mod Cutting
+pub mod Forms
+pub mod Labelled
+pub mod Looping
+pub mod Soundness
+pub mod Assembled
+pub mod Differ
+pub mod Rows
+pub mod Numbers
+pub mod LinesRead
+pub mod LinesBack
+pub mod TextsRead
+pub mod ImagesRead

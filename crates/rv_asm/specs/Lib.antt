@@ -1,2 +1,11 @@
 pub mod InstNames
 pub mod AsmText
+pub mod Tokens
+pub mod Statements
+pub mod Head
+pub mod StatementView
+pub mod Faults
+pub mod Reading
+pub mod Sound
+pub mod PassView
+pub mod AsmExamples

@@ -2,6 +2,7 @@
 ghost use Rattle.std.specs.Prelude.{◌≡◌};
 ghost use Rattle.rv_asm.specs.InstNames.{name_text, register_text, immediate_text, shift_text, load_text, store_text, branch_text};
 
+use crate::verb::{verb_of, verb_text};
 use rv_inst::{BranchName, IName, Inst, LoadName, RName, ShiftName, StoreName};
 
 /// The name of an instruction.
@@ -10,24 +11,11 @@ use rv_inst::{BranchName, IName, Inst, LoadName, RName, ShiftName, StoreName};
 pub fn name_text(inst: &Inst) -> &'static [u8]
     ensures value { result.now ≡ name_text inst.now }
 {
-    match inst {
-        Inst::R { name, .. } => register_text(*name),
-        Inst::I { name, .. } => immediate_text(*name),
-        Inst::Shift { name, .. } => shift_text(*name),
-        Inst::Load { name, .. } => load_text(*name),
-        Inst::Store { name, .. } => store_text(*name),
-        Inst::Branch { name, .. } => branch_text(*name),
-        Inst::Lui { .. } => b"lui",
-        Inst::Auipc { .. } => b"auipc",
-        Inst::Jal { .. } => b"jal",
-        Inst::Jalr { .. } => b"jalr",
-        Inst::Fence { .. } => b"fence",
-        Inst::Ecall => b"ecall",
-        Inst::Ebreak => b"ebreak",
-    }
+    verb_text(verb_of(inst))
 }
 
-fn register_text(name: RName) -> &'static [u8]
+/// Of an instruction on two registers.
+pub fn register_text(name: RName) -> &'static [u8]
     ensures value { result.now ≡ register_text name }
 {
     match name {
@@ -52,7 +40,8 @@ fn register_text(name: RName) -> &'static [u8]
     }
 }
 
-fn immediate_text(name: IName) -> &'static [u8]
+/// Of an instruction on a register and an immediate.
+pub fn immediate_text(name: IName) -> &'static [u8]
     ensures value { result.now ≡ immediate_text name }
 {
     match name {
@@ -65,7 +54,8 @@ fn immediate_text(name: IName) -> &'static [u8]
     }
 }
 
-fn shift_text(name: ShiftName) -> &'static [u8]
+/// Of a shift by a number.
+pub fn shift_text(name: ShiftName) -> &'static [u8]
     ensures value { result.now ≡ shift_text name }
 {
     match name {
@@ -75,7 +65,8 @@ fn shift_text(name: ShiftName) -> &'static [u8]
     }
 }
 
-fn load_text(name: LoadName) -> &'static [u8]
+/// Of a load.
+pub fn load_text(name: LoadName) -> &'static [u8]
     ensures value { result.now ≡ load_text name }
 {
     match name {
@@ -87,7 +78,8 @@ fn load_text(name: LoadName) -> &'static [u8]
     }
 }
 
-fn store_text(name: StoreName) -> &'static [u8]
+/// Of a store.
+pub fn store_text(name: StoreName) -> &'static [u8]
     ensures value { result.now ≡ store_text name }
 {
     match name {
@@ -97,7 +89,8 @@ fn store_text(name: StoreName) -> &'static [u8]
     }
 }
 
-fn branch_text(name: BranchName) -> &'static [u8]
+/// Of a branch.
+pub fn branch_text(name: BranchName) -> &'static [u8]
     ensures value { result.now ≡ branch_text name }
 {
     match name {

@@ -1,0 +1,7 @@
+-- A look-up finds the label.
+use Rattle.std.proofs.Common.{sym, ◌∙◌}
+use Rattle.rv_asm.proofs.Labelled.{found-lookup}
+use Rattle.rv_asm.proofs.pass.find.Goals as goal
+
+pub returns : goal.returns
+returns c = record { value = c.copied.ensures ∙ (c.get.ensures.value ∙ found-lookup c.args.name.now c.args.labels.now.entries) }

@@ -1,0 +1,12 @@
+-- What a split at commas yields.
+use Rattle.std.proofs.Common.{rules, tests}
+use Rattle.std.proofs.lemmas.Iterator.Consumers.{map_from_collect}
+use Rattle.std.proofs.lemmas.Iterator.Splits.{YieldsList-from_slice_split}
+use Rattle.rv_asm.specs.Tokens.{is_comma}
+use Rattle.rv_asm.proofs.tokens.pieces_of.Goals as goal
+
+pub returns : goal.returns
+returns c = record {
+  value = map_from_collect _ c.collect.ensures.ran
+      (YieldsList-from_slice_split _ is_comma c.args.line.now c.split.ensures.rest c.split.ensures.done c.split.ensures.closure (λ x r q k. search (rules, tests)));
+}

@@ -9,18 +9,20 @@ use Rattle.tam_input.specs.declared.refusal.Refusal.{Refusal}
 use Rattle.tam_input.specs.declared.refusal.Refusal.TheVariants as refusal
 use Rattle.tam_input.specs.Refusing.{Files, refusal_status, refusal_line, read_fault_line}
 use Rattle.tam_input.specs.Inputs.{Request, KeepsNamed, IsFault, ReadsOut, Names}
-use Rattle.tam.specs.Answers.{AnswerTo, not_graph, not_accepted, listed, wrong_count, ran, ran_out, wanted, run_of, status_of}
+use Rattle.tam.specs.Answers.{AnswerTo, not_graph, not_accepted, listed, wrong_count, ran, ran_out, not_assembled, assembled, wanted, run_of, status_of}
 use Rattle.tam.specs.Headline.{IsDone, IsSaid, KeepsFiles}
 use Rattle.tam.proofs.Running.{not-three}
 
 -- an answer isn't a read fault
 no-fault : (ask : Request) (bytes : List ℕ) (status : ℕ) (text : List ℕ) → AnswerTo ask bytes status text → status ≢ 3
-no-fault ask bytes status text (not_graph e) z = absurd (omega (arith, z))
-no-fault ask bytes status text (not_accepted r e) z = absurd (omega (arith, z))
+no-fault ask bytes status text (not_graph m e) z = absurd (omega (arith, z))
+no-fault ask bytes status text (not_accepted m r e) z = absurd (omega (arith, z))
 no-fault ask bytes status text (listed s e) z = absurd (omega (arith, z))
 no-fault ask bytes status text (wrong_count m s d) z = absurd (omega (arith, z))
 no-fault ask bytes status text (ran a) z = absurd (not-three _ _ z)
 no-fault ask bytes status text (ran_out front rest a is) z = absurd (omega (arith, z))
+no-fault ask bytes status text (not_assembled m e) z = absurd (omega (arith, z))
+no-fault ask bytes status text (assembled m r) z = absurd (omega (arith, z))
 no-fault ask bytes status text wanted z = absurd (omega (arith, z))
 
 module _ (words : Asked) (left left_new : Files) (faults faults_new : List ℕ → ℕ) (old new : Option (List ℕ)) (status : ℕ) where

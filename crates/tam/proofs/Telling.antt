@@ -22,7 +22,7 @@ use Rattle.tam_input.specs.declared.refusal.Refusal.TheVariants as refusal
 use Rattle.tam_input.specs.Refusing.{Files, IsLeft, IsOrder, IsUntold, Refuses, usage, not_read, long_order, no_order, too_long, wanted, untold}
 use Rattle.tam_input.specs.Refusing.{refusal_status, refusal_line, read_fault_line, no_memory_line, input_of, most_bytes, most_order_bytes}
 use Rattle.tam_input.specs.Inputs.{Request, request_of}
-use Rattle.tam.specs.Answers.{Answer, AnswerTo, AsksGraph, Spells, refused, answered, unseen, not_graph, not_accepted, listed, wrong_count, ran, ran_out, wanted as out}
+use Rattle.tam.specs.Answers.{Answer, AnswerTo, AsksGraph, Spells, refused, answered, unseen, not_graph, not_accepted, listed, wrong_count, ran, ran_out, not_assembled, assembled, wanted as out}
 use Rattle.tam.specs.Answers.{listing, run_of, status_of}
 use Rattle.tam.specs.Headline.{AsksRun}
 use Rattle.tam.proofs.Asking.{not-both, job-once, told-once, ok-not-err, ordered-file, order-once, not-untold}
@@ -58,20 +58,26 @@ no-listing m g text e is = nothing (ap (λ n. listing n g) (sym e) ∙ is)
     nothing : ◌≡◌ {A = Option (List ℕ)} None (Some text) → ⊥
     nothing e = cc
 
+-- nor an assembly
+no-assembly : (m : Mode) → m ≡ mode.Graph → m ≡ mode.Assemble → ⊥
+no-assembly m e f = cc
+
 module _ (ask : Request) (bytes : List ℕ) (g : Graph) (asks : AsksGraph ask bytes g) where
   same-graph : (h : Graph) → Spells bytes h → h ≡ g
   same-graph h s = reads-once bytes g h asks.spelled.reads s.reads
 
   -- of the bytes
   pub told-of : (status : ℕ) (text : List ℕ) → AnswerTo ask bytes status text → Told ask g status text
-  told-of status text (not_graph {n = n} {cause = c} e) = absurd (no-fault bytes g n c asks.spelled.reads e)
-  told-of status text (not_accepted {g = h} {place = p} {cause = c} r e) =
+  told-of status text (not_graph {n = n} {cause = c} m e) = absurd (no-fault bytes g n c asks.spelled.reads e)
+  told-of status text (not_accepted {g = h} {place = p} {cause = c} m r e) =
       absurd (not-refused g p c asks.spelled.accepted (subst (λ k. first_refused k ≡ Some (p, c)) (reads-once bytes g h asks.spelled.reads r) e))
   told-of status text (listed {g = h} {text = t} s e) = absurd (no-listing ask.mode h t asks.mode e)
   told-of status text (wrong_count {g = h} m s differ) =
       absurd (differ (subst (λ k. length ask.args ≡ params_of (code_of k k.main)) (sym (same-graph h s)) asks.one_each))
   told-of status text (ran {g = h} a) = subst (λ k. Told ask g (status_of (run_of ask k)) (text_of (run_of ask k))) (sym (same-graph h a.spelled)) whole
   told-of status text (ran_out {g = h} front rest a is) = ended front rest (subst (λ k. (run_of ask k).printed ≡ front ++ rest) (same-graph h a.spelled) is)
+  told-of status text (not_assembled m e) = absurd (no-assembly ask.mode asks.mode m)
+  told-of status text (assembled m r) = absurd (no-assembly ask.mode asks.mode m)
   told-of status text out = ended [] (run_of ask g).printed refl
 
 module _ (words : Asked) (left : Files) (g : Graph) (ask : Request) (asks : AsksRun words left g ask) where

@@ -10,6 +10,8 @@ use Rattle.tam_read.specs.declared.cause.ReadCause.TheVariants.{UnknownName, Unk
 use Rattle.tam_graph.specs.declared.check_cause.CheckCause.{CheckCause}
 use Rattle.tam_graph.specs.declared.check_cause.CheckCause.TheVariants.{NoMain, WrongBlock, PlaceTwice, PlaceRange, PlaceMissing, DepthMismatch}
 use Rattle.tam_graph.specs.declared.check_cause.CheckCause.TheVariants.{MainType, Cycle}
+use Rattle.rv_asm.specs.declared.asm_error.AsmCause.{AsmCause}
+use Rattle.rv_asm.specs.declared.asm_error.AsmCause.TheVariants as asm
 
 -- the line of a text that is refused at a line of its own, for a cause with this name
 abbrev pub refused_line : ℕ → List ℕ → List ℕ
@@ -46,3 +48,14 @@ check_cause_name PlaceMissing = codes "PlaceMissing"
 check_cause_name DepthMismatch = codes "DepthMismatch"
 check_cause_name MainType = codes "MainType"
 check_cause_name Cycle = codes "Cycle"
+
+-- a fault of an assembly text by its name
+abbrev pub asm_cause_name : AsmCause → List ℕ
+asm_cause_name asm.BadHead = codes "BadHead"
+asm_cause_name asm.BadLine = codes "BadLine"
+asm_cause_name asm.BadNumber = codes "BadNumber"
+asm_cause_name asm.Offset = codes "Offset"
+asm_cause_name asm.TwiceNamed = codes "TwiceNamed"
+asm_cause_name asm.UnknownName = codes "UnknownName"
+asm_cause_name asm.Ended = codes "Ended"
+asm_cause_name asm.TooMany = codes "TooMany"

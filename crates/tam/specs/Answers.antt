@@ -1,6 +1,6 @@
 -- What the program writes, and with which status, by what the words ask for and by what is left of the files.
 -- The rule in words: docs/FORMATS.md, "Command line".
-use Rattle.std.specs.Prelude.{ℕ, ◌≡◌, ◌≢◌, List, [], ◌∷◌, ◌++◌, flat_map, length, Option, Some, None}
+use Rattle.std.specs.Prelude.{ℕ, ◌≡◌, ◌≢◌, Bool, true, false, List, [], ◌∷◌, ◌++◌, flat_map, length, take, Option, Some, None}
 use Rattle.tam_graph.specs.declared.place.Place.{Place}
 use Rattle.tam_graph.specs.declared.check_cause.CheckCause.{CheckCause}
 use Rattle.tam_graph.specs.Graphs.{Graph, code_of, params_of}
@@ -23,7 +23,16 @@ use Rattle.tam_list.specs.Listings.{check_text, sets_text, parts_text}
 use Rattle.tam_input.specs.declared.refusal.Refusal.{Refusal}
 use Rattle.tam_input.specs.Refusing.{Files, IsLeft, IsOrder, IsUntold, Refuses, input_of, most_bytes, usage_line, no_memory_line, refusal_status, refusal_line}
 use Rattle.tam_input.specs.Inputs.{Request, request_of}
-use Rattle.tam.specs.AnswerLines.{refused_line, read_cause_name, check_cause_name}
+use Rattle.rv_inst.specs.Images.{Image, image_bytes}
+use Rattle.rv_asm.specs.declared.asm_error.AsmCause.{AsmCause}
+use Rattle.rv_asm.specs.Faults.{asm_faults}
+use Rattle.rv_asm.specs.Reading.{AsmReads}
+use Rattle.tam.specs.AnswerLines.{refused_line, read_cause_name, check_cause_name, asm_cause_name}
+
+-- the mode reads a graph's text
+abbrev pub reads_graph : Mode → Bool
+reads_graph mode.Assemble = false
+reads_graph m = true
 
 -- the bytes are a text of an accepted graph
 pub record Spells (bytes : List ℕ) (g : Graph) : Type 0 where
@@ -36,7 +45,7 @@ listing mode.Check g = Some (check_text g)
 listing mode.EmitDg g = Some (canonical g)
 listing mode.Sets g = Some (sets_text g)
 listing mode.Parts g = Some (parts_text g)
-listing mode.Graph g = None
+listing m g = None
 
 -- ---- runs
 
@@ -71,10 +80,10 @@ pub record AsksGraph (ask : Request) (bytes : List ℕ) (g : Graph) : Type 0 whe
 -- by what is asked of these bytes, the status and the text that are answered
 pub data AnswerTo (ask : Request) (bytes : List ℕ) : ℕ → List ℕ → Type 0 where
   -- the bytes read as no graph
-  not_graph : {n : ℕ} {cause : ReadCause} → first_fault bytes ≡ (n, cause) ∷ []
+  not_graph : {n : ℕ} {cause : ReadCause} → reads_graph ask.mode ≡ true → first_fault bytes ≡ (n, cause) ∷ []
       → AnswerTo ask bytes 1 (refused_line n (read_cause_name cause))
   -- they read as one that isn't accepted
-  not_accepted : {g : Graph} {place : Place} {cause : CheckCause} → Reads bytes g
+  not_accepted : {g : Graph} {place : Place} {cause : CheckCause} → reads_graph ask.mode ≡ true → Reads bytes g
       → first_refused g ≡ Some (place, cause) → AnswerTo ask bytes 1 (refused_line (line_at (lines_in bytes) place) (check_cause_name cause))
   -- as an accepted one, which is listed
   listed : {g : Graph} {text : List ℕ} → Spells bytes g → listing ask.mode g ≡ Some text → AnswerTo ask bytes 0 text
@@ -86,6 +95,11 @@ pub data AnswerTo (ask : Request) (bytes : List ℕ) : ℕ → List ℕ → Type
   -- until memory is wanted, behind the lines of its first results
   ran_out : {g : Graph} (front rest : List (ℕ × ℕ)) → AsksGraph ask bytes g → (run_of ask g).printed ≡ front ++ rest
       → AnswerTo ask bytes 11 (flat_map result_line front ++ no_memory_line)
+  -- the bytes are no assembly text
+  not_assembled : {n : ℕ} {cause : AsmCause} → ask.mode ≡ mode.Assemble → take 1 (asm_faults bytes) ≡ (n, cause) ∷ []
+      → AnswerTo ask bytes 1 (refused_line n (asm_cause_name cause))
+  -- or the text of an image
+  assembled : {image : Image} → ask.mode ≡ mode.Assemble → AsmReads bytes image → AnswerTo ask bytes 0 (image_bytes image)
   -- or memory is wanted before a line was written
   wanted : AnswerTo ask bytes 11 no_memory_line
 

@@ -5,11 +5,13 @@ ghost use Rattle.tam_input.specs.Inputs.{request_of};
 ghost use Rattle.tam.specs.Answers.{AnswerTo};
 ghost use Rattle.tam.specs.Headline.{IsDone};
 
+use crate::assembly::answer_assembly_text;
 use crate::graph_text::answer_graph_text;
 use crate::status::Status;
 use std::alloc::Global;
 use tam_edge::Sink;
 use tam_input::Input;
+use tam_words::Mode;
 
 /// Answers the bytes of a job's file.
 pub fn answer<K: Sink>(alloc: Global, input: Input, out: &mut K) -> Status
@@ -18,5 +20,8 @@ pub fn answer<K: Sink>(alloc: Global, input: Input, out: &mut K) -> Status
         (K.taken out.old) (K.taken out.new) (K.faults out.old) (K.faults out.new) }
 {
     let Input { job, order, text } = input;
-    answer_graph_text(alloc, &text, &job, order, out)
+    match job.mode() {
+        Mode::Assemble => answer_assembly_text(alloc, &text, out),
+        _ => answer_graph_text(alloc, &text, &job, order, out),
+    }
 }

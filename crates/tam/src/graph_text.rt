@@ -1,9 +1,9 @@
 // What is answered to a graph's text.
-ghost use Rattle.std.specs.Prelude.{◌≡◌, ◌≤◌, ℕ, List, length};
+ghost use Rattle.std.specs.Prelude.{◌≡◌, ◌≤◌, true, ℕ, List, length};
 ghost use Rattle.tam_graph.specs.Reading.{Reads};
 ghost use Rattle.tam_read.specs.Placed.{lines_in};
 ghost use Rattle.tam_input.specs.Inputs.{request_of};
-ghost use Rattle.tam.specs.Answers.{AnswerTo, Spells};
+ghost use Rattle.tam.specs.Answers.{AnswerTo, Spells, reads_graph};
 ghost use Rattle.tam.specs.Headline.{IsDone};
 
 use crate::graph_run::run_graph;
@@ -29,6 +29,7 @@ pub fn answer_graph_text<K: Sink>(
     out: &mut K,
 ) -> Status
     requires few { length text.now ≤ 1048576 }
+    requires graph { reads_graph job.now.mode ≡ true }
     ensures done { IsDone (AnswerTo (request_of job.now order) text.now) result.code
         (K.taken out.old) (K.taken out.new) (K.faults out.old) (K.faults out.new) }
 {
@@ -49,6 +50,7 @@ fn answer_found<K: Sink>(
     order: Order,
     out: &mut K,
 ) -> Status
+    requires graph { reads_graph job.now.mode ≡ true }
     ensures done { (bytes : List ℕ) → Reads bytes found.graph → found.lines ≡ lines_in bytes → IsDone (AnswerTo (request_of job.now order) bytes) result.code
         (K.taken out.old) (K.taken out.new) (K.faults out.old) (K.faults out.new) }
 {
@@ -71,6 +73,7 @@ fn answer_accepted<K: Sink>(
     order: Order,
     out: &mut K,
 ) -> Status
+    requires graph { reads_graph job.now.mode ≡ true }
     ensures done { (bytes : List ℕ) → Spells bytes graph.now → IsDone (AnswerTo (request_of job.now order) bytes) result.code
         (K.taken out.old) (K.taken out.new) (K.faults out.old) (K.faults out.new) }
 {
@@ -80,5 +83,6 @@ fn answer_accepted<K: Sink>(
         Mode::EmitDg => say_made(print(alloc, graph.graph()), 0, out),
         Mode::Sets => say_made(print_sets(alloc, graph), 0, out),
         Mode::Parts => say_made(print_parts(alloc, graph), 0, out),
+        Mode::Assemble => unreachable!(),
     }
 }

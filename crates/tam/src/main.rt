@@ -5,6 +5,7 @@
 #![tactic(auto)]
 
 mod answer;
+mod assembly;
 mod graph_run;
 mod graph_text;
 mod refusal;

@@ -1,8 +1,9 @@
 // The lines of refusals.
 ghost use Rattle.std.specs.Prelude.{◌≡◌, ◌++◌, IfOk, OnOk, codes};
 ghost use Rattle.std.specs.Fmt.{decimal};
-ghost use Rattle.tam.specs.AnswerLines.{refused_line, read_cause_name, check_cause_name};
+ghost use Rattle.tam.specs.AnswerLines.{refused_line, read_cause_name, check_cause_name, asm_cause_name};
 
+use rv_asm::AsmCause;
 use std::alloc::{AllocError, Global};
 use tam_graph::CheckCause;
 use tam_read::{Limit, ReadCause};
@@ -64,5 +65,21 @@ pub fn check_cause_name(cause: CheckCause) -> &'static [u8]
         CheckCause::DepthMismatch => b"DepthMismatch",
         CheckCause::MainType => b"MainType",
         CheckCause::Cycle => b"Cycle",
+    }
+}
+
+/// A fault of an assembly text by its name.
+pub fn asm_cause_name(cause: AsmCause) -> &'static [u8]
+    ensures value { result.now ≡ asm_cause_name cause }
+{
+    match cause {
+        AsmCause::BadHead => b"BadHead",
+        AsmCause::BadLine => b"BadLine",
+        AsmCause::BadNumber => b"BadNumber",
+        AsmCause::Offset => b"Offset",
+        AsmCause::TwiceNamed => b"TwiceNamed",
+        AsmCause::UnknownName => b"UnknownName",
+        AsmCause::Ended => b"Ended",
+        AsmCause::TooMany => b"TooMany",
     }
 }

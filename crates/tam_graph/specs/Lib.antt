@@ -9,7 +9,6 @@ pub mod Finding
 pub mod NodeLists
 pub mod KeptCodes
 pub mod Hashes
-pub mod Built
 pub mod ExampleGraphs
 pub mod AcceptedExamples
 pub mod TextExamples

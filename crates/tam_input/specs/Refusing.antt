@@ -6,6 +6,7 @@ use Rattle.tam_msgs.specs.declared.item.Item.{Item}
 use Rattle.tam_msgs.specs.Orders.{order_of}
 use Rattle.tam_msgs.specs.Runs.{line}
 use Rattle.tam_words.specs.declared.mode.Mode.{Mode}
+use Rattle.tam_words.specs.declared.mode.Mode.TheVariants as mode
 use Rattle.tam_words.specs.declared.usage_cause.UsageCause.{UsageCause}
 use Rattle.tam_words.specs.declared.usage_cause.UsageCause.TheVariants.{Order as Bad_order}
 use Rattle.tam_words.specs.Names.{cause_name}
@@ -57,6 +58,7 @@ most_order_bytes = 1048576
 
 -- the most bytes of the text that a mode reads
 abbrev pub most_bytes : Mode → ℕ
+most_bytes mode.Assemble = 67108864
 most_bytes m = 1048576
 
 -- these bytes are left, and no more than so many

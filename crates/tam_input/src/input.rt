@@ -14,6 +14,9 @@ use tam_words::{Job, Mode, UsageCause, WordsError, read_words};
 // The most bytes of an order file and of a graph's text.
 const MOST_BYTES: u32 = 1_048_576;
 
+// The most bytes of an assembly text.
+const MOST_ASSEMBLY_BYTES: u32 = 67_108_864;
+
 /// A job with its order list and the bytes of its file.
 #[derive(Drop)]
 pub struct Input {
@@ -96,7 +99,8 @@ fn most_bytes(mode: Mode) -> u32
     ensures value { result ≡ most_bytes mode }
 {
     match mode {
-        Mode::Graph | Mode::Check | Mode::EmitDg | Mode::Sets | Mode::Parts => MOST_BYTES,
+        Mode::Assemble => MOST_ASSEMBLY_BYTES,
+        _ => MOST_BYTES,
     }
 }
 

@@ -3,7 +3,7 @@
 use Rattle.std.specs.Prelude.{ℕ, Bool, true, false, List, [], ◌∷◌, Option, codes, find}
 use Rattle.std.specs.Str.{bytes_eq}
 use Rattle.tam_words.specs.declared.mode.Mode.{Mode}
-use Rattle.tam_words.specs.declared.mode.Mode.TheVariants.{Graph, Check, EmitDg, Sets, Parts}
+use Rattle.tam_words.specs.declared.mode.Mode.TheVariants.{Graph, Check, EmitDg, Sets, Parts, Assemble}
 use Rattle.tam_words.specs.declared.setting.Setting.{Setting}
 use Rattle.tam_words.specs.declared.setting.Setting.TheVariants.{Args as Set_args, Order as Set_order, OrderFile as Set_order_file}
 use Rattle.tam_words.specs.declared.setting.Setting.TheVariants.{Budget as Set_budget, Frames as Set_frames, Cells as Set_cells}
@@ -19,10 +19,11 @@ mode_name Check = codes "check"
 mode_name EmitDg = codes "emit-dg"
 mode_name Sets = codes "sets"
 mode_name Parts = codes "parts"
+mode_name Assemble = codes "assemble"
 
 -- every mode
 abbrev pub modes : List Mode
-modes = Graph ∷ Check ∷ EmitDg ∷ Sets ∷ Parts ∷ []
+modes = Graph ∷ Check ∷ EmitDg ∷ Sets ∷ Parts ∷ Assemble ∷ []
 
 -- the mode that a word names
 abbrev pub mode_of : List ℕ → Option Mode

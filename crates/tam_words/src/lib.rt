@@ -9,7 +9,7 @@
 //!
 //! - `Words`: fewer than two words are there, or MODE or NAME is empty or begins with `-`, or a later word is none of the options, or one of
 //!   the options comes twice;
-//! - `Mode`: MODE is no mode, which are `graph`, `check`, `emit-dg`, `sets` and `parts`;
+//! - `Mode`: MODE is no mode, which are `graph`, `check`, `emit-dg`, `sets`, `parts` and `assemble`;
 //! - `Extra`: an option stands at another mode than `graph`, or `--order` beside `--order-file`;
 //! - `Args`: the text of `--args` is neither empty nor words joined by commas;
 //! - `Order`: the text of `--order` has more than 1,048,576 bytes or is no order list;

@@ -13,15 +13,17 @@ pub enum Mode {
     EmitDg,
     Sets,
     Parts,
+    Assemble,
 }
 
 /// Every mode, in the order of `Mode`.
-pub const MODES: [Mode; 5] = [
+pub const MODES: [Mode; 6] = [
     Mode::Graph,
     Mode::Check,
     Mode::EmitDg,
     Mode::Sets,
     Mode::Parts,
+    Mode::Assemble,
 ];
 
 impl Mode {
@@ -35,6 +37,7 @@ impl Mode {
             Mode::EmitDg => b"emit-dg",
             Mode::Sets => b"sets",
             Mode::Parts => b"parts",
+            Mode::Assemble => b"assemble",
         }
     }
 

@@ -111,6 +111,7 @@ fn modes_have_their_words(rt: HostRuntime) -> Result<(), Fail> {
         ("emit-dg", Mode::EmitDg),
         ("sets", Mode::Sets),
         ("parts", Mode::Parts),
+        ("assemble", Mode::Assemble),
     ];
     for (word, mode) in cases {
         let texts = texts(&rt, &[word, "f"])?;

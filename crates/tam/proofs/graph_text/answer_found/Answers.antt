@@ -13,7 +13,7 @@ returns-in-Err-default-At g c = record {
       let told = c.in-Err-default-At in
       made-done _ _ _ _ (AnswerTo (request_of c.args.job.now c.args.order) bytes) 1 c.say_made.result.code c.refused_line.result
       (refused_line (line_at (lines_in bytes) told.place) (check_cause_name told.cause))
-      (not_accepted reads (rw told.field-0-1-is at told.ensures.refused)) wanted
+      (not_accepted c.requires.graph reads (rw told.field-0-1-is at told.ensures.refused)) wanted
       (if-ok c.refused_line.result (λ t e. e ∙ ap₂ refused_line
       (c.line-line.ensures.value ∙ ap (line_at c.args.found.lines) told.place-is ∙ ap (λ l. line_at l told.place) lines)
       (c.check_cause_name.ensures.value ∙ ap check_cause_name told.cause-is))

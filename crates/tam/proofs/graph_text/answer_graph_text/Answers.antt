@@ -9,7 +9,7 @@ use Rattle.tam.proofs.graph_text.answer_graph_text.Goals as goal
 pub returns-in-Err-At : goal.returns-in-Err-At
 returns-in-Err-At g c = record {
   done = made-done _ _ _ _ (AnswerTo (request_of c.args.job.now c.args.order) c.args.text.now) 1 c.say_made.result.code c.refused_line.result
-      (refused_line c.in-Err-At.line (read_cause_name c.in-Err-At.cause)) (not_graph (rw c.in-Err-At.field-0-is at c.in-Err-At.ensures.refused)) wanted
+      (refused_line c.in-Err-At.line (read_cause_name c.in-Err-At.cause)) (not_graph c.requires.graph (rw c.in-Err-At.field-0-is at c.in-Err-At.ensures.refused)) wanted
       (if-ok c.refused_line.result (λ t e. e ∙ ap₂ refused_line c.in-Err-At.line-is
       (c.read_cause_name.ensures.value ∙ ap read_cause_name c.in-Err-At.cause-is)) c.refused_line.ensures.value) c.say_made.ensures.said;
 }

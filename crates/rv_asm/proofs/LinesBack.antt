@@ -49,7 +49,7 @@ comment_good (b ∷ bs) e =
     go here others true p = ap are_good_bytes (way_true (b == 35) [] (b ∷ without_comment bs) p)
     go here others false p =
         let same : is_good_byte b (without_comment bs) ≡ is_good_byte b bs =
-          ap (λ (t : Bool). (b == 10) || ((b == 9) || ((leb 32 b && leb b 126) || ((b == 13) && t)))) (end_same bs) in
+        ap (λ (t : Bool). (b == 10) || ((b == 9) || ((leb 32 b && leb b 126) || ((b == 13) && t)))) (end_same bs) in
         ap are_good_bytes (way_false (b == 35) [] (b ∷ without_comment bs) p)
         ∙ good_with (is_good_byte b (without_comment bs)) (are_good_bytes (without_comment bs)) (same ∙ here) others
 
@@ -104,7 +104,7 @@ statement_none : (s : Said) (st : Statement) (ss : List Statement) → Fits s (s
 statement_none s (Label name) ss f =
     let more = labels_from (length s.words) ss in
     let all : all_differ same_bytes (names s.labels ++ name ∷ names more) ≡ true =
-      sym (ap (all_differ same_bytes) (map-append (λ (l : List ℕ × ℕ). l.0) s.labels ((name, length s.words) ∷ more))) ∙ f.differ in
+    sym (ap (all_differ same_bytes) (map-append (λ (l : List ℕ × ℕ). l.0) s.labels ((name, length s.words) ∷ more))) ∙ f.differ in
     ap (λ (t : Bool). where_so t TwiceNamed) (found-among name s.labels ∙ new_within (names s.labels) name (names more) all)
 statement_none s (Coded c) ss f = let few = f.few in ap (λ (t : Bool). where_so t TooMany) (not_many (length s.words) (omega arith))
 
@@ -186,7 +186,7 @@ body_back last image s n line t ts ls (st ∷ ss) e b g h f more =
     let new : with_tokens n (tokens_of line) s ≡ with_statement n (Ok st) s = adds_statement n s line t ts (Ok st) e b is in
     let rest : NoneBehind last image (n + 1) ls (with_statement n (Ok st) s) = subst (NoneBehind last image (n + 1) ls) new more in
     let lines : AreLines image ss (with_statement n (Ok st) s).next (rows ls) =
-      subst (λ (k : Next). AreLines image ss k (rows ls)) (sym (stays st)) others in
+    subst (λ (k : Next). AreLines image ss k (rows ls)) (sym (stays st)) others in
     both_none {Y = ℕ × AsmCause} (λ c. (n, c)) (faults_of_line s line) _
     (body_faultless s line b g (ap (faults_of_tokens s) e ∙ ap (faults_of_statement s) is ∙ statement_none s st ss f))
     (ap (λ (w : Said). first_pass last w (n + 1) ls) new ∙ rest ss lines (statement_fits s n st ss f))

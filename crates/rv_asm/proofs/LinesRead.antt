@@ -154,9 +154,9 @@ by_tokens image z s n line ls (t ∷ ts) false p q f is agrees h =
     let old : SomeReads image (with_head (Some there.0) s) ls z = subst (λ (w : Said). SomeReads image w ls z) new h in
     let end : z ≡ said_from (with_head (Some there.0) s) (n + 1) ls = is ∙ ap (λ (w : Said). said_from w (n + 1) ls) new in
     let same : there.0 ≡ number_in s.next image =
-        sym (number_put s.next there.0 s (t ∷ ts) there.1 q)
-        ∙ sym (lines_keep s.next (with_head (Some there.0) s) (n + 1) ls (behind_later s.next q))
-        ∙ sym (ap (said_number s.next) end) ∙ agrees.same s.next in
+    sym (number_put s.next there.0 s (t ∷ ts) there.1 q)
+    ∙ sym (lines_keep s.next (with_head (Some there.0) s) (n + 1) ls (behind_later s.next q))
+    ∙ sym (ap (said_number s.next) end) ∙ agrees.same s.next in
     (old.0, head_first image z s line t ts ls old.0 there.0 p q there.1 same (line_good s line f) old.1)
 
 -- lines without a fault read on

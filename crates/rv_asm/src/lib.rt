@@ -24,6 +24,5 @@ mod verb;
 
 pub use asm_error::{AsmCause, AsmError};
 pub use assembler::assemble;
-
 pub use operand::Operand;
 pub use printer::print_asm;

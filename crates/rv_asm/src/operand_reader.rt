@@ -134,7 +134,11 @@ pub fn before_last(at: u8, text: &[u8]) -> Option<&[u8]>
     ensures value { option_map text_of result ≡ before_last at text.now }
 {
     let (before, behind) = cut_at(at, text)?;
-    if behind.is_empty() { Some(before) } else { None }
+    if behind.is_empty() {
+        Some(before)
+    } else {
+        None
+    }
 }
 
 // The immediate and the register of an address, by its parts.

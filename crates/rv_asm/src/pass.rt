@@ -10,8 +10,8 @@ ghost use Rattle.rv_asm.specs.PassView.{said, labels_seen, placed_seen};
 
 use crate::AsmCause;
 use crate::form::statement_of;
-use crate::jump::Jump;
 use crate::head::{MIN_STRIDE, Next, behind, head_number, is_body};
+use crate::jump::Jump;
 use crate::statement::{Code, Statement};
 use crate::tokens::{tokens_of, without_comment};
 use indexmap::IndexMap;
@@ -141,11 +141,7 @@ fn placed_at<'t>(line: u32, code: &Code<'t>) -> Placed<'t>
 }
 
 // Appends a word.
-fn push_word<'t>(
-    words: &mut Vec<Placed<'t>>,
-    line: u32,
-    code: &Code<'t>,
-) -> Result<(), AllocError>
+fn push_word<'t>(words: &mut Vec<Placed<'t>>, line: u32, code: &Code<'t>) -> Result<(), AllocError>
     ensures ok { OnOk result (map placed_seen words.new.items ≡ map placed_seen words.old.items ++ (line, code_seen code.now) ∷ []) }
 {
     words.extend_from_slice(&[placed_at(line, code)])

@@ -23,7 +23,8 @@ use Rattle.tam_list.specs.Listings.{check_text, sets_text, parts_text}
 use Rattle.tam_input.specs.declared.refusal.Refusal.{Refusal}
 use Rattle.tam_input.specs.Refusing.{Files, IsLeft, IsOrder, IsUntold, Refuses, input_of, most_bytes, usage_line, no_memory_line, refusal_status, refusal_line}
 use Rattle.tam_input.specs.Inputs.{Request, request_of}
-use Rattle.rv_inst.specs.Images.{Image, image_bytes}
+use Rattle.rv_inst.specs.Images.{Image}
+use Rattle.rv_image.specs.ImageFiles.{image_bytes}
 use Rattle.rv_asm.specs.declared.asm_error.AsmCause.{AsmCause}
 use Rattle.rv_asm.specs.Faults.{asm_faults}
 use Rattle.rv_asm.specs.Reading.{AsmReads}

@@ -73,6 +73,9 @@ fn params_with_feedback_stand_apart(rt: HostRuntime) -> Result<(), Fail> {
         return Err(Fail::from("no memory"));
     };
     assert_eq!(rt; parts.classes(), 2);
-    assert!(rt; are(&parts, &[&[0, 2, 3, 5], &[1, 4, 6]]), "a and what it alone gives, and the rest");
+    assert!(rt;
+        are(&parts, &[&[0, 2, 3, 5], &[1, 4, 6]]),
+        "a and what it alone gives, and the rest"
+    );
     Ok(())
 }

@@ -1,5 +1,5 @@
 -- The ways read from tables of classes, of what they lead to and of dependences are those of the partition.
-use Rattle.std.proofs.Common.{◌≡◌, ℕ, zero, suc, ◌+◌, ◌<◌, ◌≤◌, List, [], ◌∷◌, ◌++◌, Bool, true, false, ◌&&◌, refl, sym, ap, ap₂, subst, arith, ◌∙◌, true≢false, ◌==◌}
+use Rattle.std.proofs.Common.{◌≡◌, ℕ, ◌+◌, ◌<◌, ◌≤◌, List, [], ◌∷◌, ◌++◌, Bool, true, false, ◌&&◌, refl, sym, ap, ap₂, subst, arith, ◌∙◌, true≢false}
 use Rattle.std.proofs.Common.{length, map, get_or, nat_lt, inl, inr, tests}
 use Rattle.std.specs.List.{concat}
 use Rattle.std.proofs.lemmas.List.{length-append}
@@ -10,7 +10,7 @@ use Rattle.tam_word.proofs.Members.{In, in-below, get-in, in-has, has-in, in-fil
 use Rattle.tam_graph.specs.Edges.{Edges, reaches}
 use Rattle.tam_graph.proofs.Quotients.{under, unlooped-reaches, reaches-unlooped}
 use Rattle.tam_split.specs.Blocks.{BlockGraph, vertex_at, places, inlets_of, dependences}
-use Rattle.tam_split.specs.Partitions.{Parts, class_of, leads_to, class_edges}
+use Rattle.tam_split.specs.Partitions.{Parts, class_of, leads_to}
 use Rattle.tam_split.specs.PartitionLaws.{IsBlockGraph, IsPartition}
 use Rattle.tam_split.specs.KeptParts.{AreClasses}
 use Rattle.tam_split.proofs.Partitioning.{edge-within}
@@ -99,8 +99,8 @@ module _ (b : BlockGraph) (graph : IsBlockGraph b) (ps : Parts) (whole : IsParti
       row : (k : ℕ) → places_where (reaches (renamed classes b.edges) k) ≡ ahead_of b ps k
       row k = ap (λ es. places_where (reaches es k)) renamed-under
           ∙ places-same (reaches (under (class_of ps) b.edges) k) (leads_to b.edges ps k) (λ x l.
-              same-test (reaches (under (class_of ps) b.edges) k x) (leads_to b.edges ps k x)
-              (reaches-unlooped (under (class_of ps) b.edges) k x) (unlooped-reaches (under (class_of ps) b.edges) k x))
+          same-test (reaches (under (class_of ps) b.edges) k x) (leads_to b.edges ps k x)
+          (reaches-unlooped (under (class_of ps) b.edges) k x) (unlooped-reaches (under (class_of ps) b.edges) k x))
 
   -- ---- the ways
 
@@ -127,7 +127,7 @@ module _ (b : BlockGraph) (graph : IsBlockGraph b) (ps : Parts) (whole : IsParti
       ∙ same-test (has (dependences b o) i) (reaches b.edges i o)
       (λ t. (in-filter (λ j. reaches b.edges j o) i (inlets_of b) (has-in (dependences b o) i t)).1)
       (λ t. in-has (dependences b o) i (filter-in (λ j. reaches b.edges j o) i (inlets_of b)
-          (filter-in (λ x. (vertex_at b x).inlet) i (places b) (below-in i (length b.vertices) (inlet-low i h)) h) t))
+      (filter-in (λ x. (vertex_at b x).inlet) i (places b) (below-in i (length b.vertices) (inlet-low i h)) h) t))
 
   module _ (k : ℕ) (there : k < length ps) where
     small : k < 128

@@ -7,7 +7,19 @@ pub of-accepted-requires : goal.of-accepted-requires
 of-accepted-requires g c =
     let named : c.expect-main.result ≡ main_name = rw c.expect-main.ensures at c.of.ensures.value in
     record {
-      accepted = rw (c.of-8.ensures.value, c.in_ok-codes.ensures.items, c.of-7.ensures.value, c.in_ok-nodes.ensures.items, c.in_ok-owners.ensures.items, c.node.ensures, c.node-2.ensures, c.node-3.ensures,
-      c.node-4.ensures, c.node-5.ensures, c.node-6.ensures, c.node-7.ensures)
-      (example-accepted c.expect-main.result c.expect-a.result c.expect-b.result c.expect-one.result c.expect-c.result c.expect-d.result named);
+      accepted = rw (
+        c.of-8.ensures.value,
+        c.in_ok-codes.ensures.items,
+        c.of-7.ensures.value,
+        c.in_ok-nodes.ensures.items,
+        c.in_ok-owners.ensures.items,
+        c.node.ensures,
+        c.node-2.ensures,
+        c.node-3.ensures,
+        c.node-4.ensures,
+        c.node-5.ensures,
+        c.node-6.ensures,
+        c.node-7.ensures,
+      )
+          (example-accepted c.expect-main.result c.expect-a.result c.expect-b.result c.expect-one.result c.expect-c.result c.expect-d.result named);
     }

@@ -1,4 +1,4 @@
-use Rattle.std.proofs.Common.{◌≡◌, ◌+◌, ◌<◌, ◌≤◌, ℕ, [], ◌∷◌, ◌++◌, ◌∙◌, sym, ap, subst, arith, length, take, drop, get_or}
+use Rattle.std.proofs.Common.{◌≡◌, ◌<◌, ℕ, [], ◌++◌, ◌∙◌, sym, ap, subst, arith, length, take, drop}
 use Rattle.std.proofs.Common.{List, map}
 use Rattle.tam_word.specs.Lists.{below}
 use Rattle.std.proofs.Math.Seq.{take-append_seam}
@@ -41,5 +41,7 @@ returns c =
     let back : take c.in_ok-sets.sets.len (c.grow_by_all.new.sets ++ drop (length c.grow_by_all.new.sets) c.in_ok-sets.sets.items) ≡ c.grow_by_all.new.sets =
     ap (λ m. take m (c.grow_by_all.new.sets ++ drop (length c.grow_by_all.new.sets) c.in_ok-sets.sets.items)) size
     ∙ take-append_seam c.grow_by_all.new.sets (drop (length c.grow_by_all.new.sets) c.in_ok-sets.sets.items) in
-    record { value = back ∙ table-is c.grow_by_all.new.sets (λ k. places_where (reaches (renamed c.args.names.now c.args.edges.now) k)) c.args.n lent
-        (λ k h. c.grow_by_all.ensures.value k (omega (arith, h, e))) }
+    record {
+      value = back ∙ table-is c.grow_by_all.new.sets (λ k. places_where (reaches (renamed c.args.names.now c.args.edges.now) k)) c.args.n lent
+          (λ k h. c.grow_by_all.ensures.value k (omega (arith, h, e)));
+    }

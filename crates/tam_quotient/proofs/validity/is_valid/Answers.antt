@@ -1,9 +1,8 @@
-use Rattle.std.proofs.Common.{◌≡◌, ◌+◌, ◌<◌, ◌≤◌, ℕ, Bool, ◌∙◌, refl, sym, ap, subst, arith, length, true, false, not, ◌&&◌, get_or}
-use Rattle.tam_word.specs.Lists.{all_of, any_of, below}
+use Rattle.std.proofs.Common.{◌≡◌, ◌<◌, ◌≤◌, ℕ, Bool, ◌∙◌, refl, sym, ap, subst, arith, length, true}
+use Rattle.tam_word.specs.Lists.{all_of, below}
 use Rattle.tam_word.proofs.AllOf.{all_of-fails}
 use Rattle.tam_word.proofs.Members.{has-below}
 use Rattle.tam_split.proofs.Classes.{partition-parts}
-use Rattle.tam_split.specs.Partitions.{is_valid}
 use Rattle.tam_quotient.specs.Quotients.{closes_cycle, keeps_outlet}
 use Rattle.tam_quotient.proofs.Tabling.{all-more, any-at, none-at}
 use Rattle.tam_quotient.proofs.Deciding.{closes-not_valid, not_kept-not_valid, tests-valid}
@@ -23,8 +22,10 @@ returns-then-not-keeps c =
     let p = c.args.p.now in
     let low : c.loop-place.place < length b.vertices = omega (arith, c.loop-place-test.true, ap length c.vertices.ensures.value) in
     let kept = sym c.keeps.ensures.value ∙ c.if-not-keeps.true in
-    record { value = sym (not_kept-not_valid b c.edges-edge-end.ensures.block c.vertices.ensures.few p (partition-parts b p c.requires.whole)
-        (all_of-fails (keeps_outlet b p) c.loop-place.place kept (below (length b.vertices)) (has-below (length b.vertices) c.loop-place.place low))) }
+    record {
+      value = sym (not_kept-not_valid b c.edges-edge-end.ensures.block c.vertices.ensures.few p (partition-parts b p c.requires.whole)
+          (all_of-fails (keeps_outlet b p) c.loop-place.place kept (below (length b.vertices)) (has-below (length b.vertices) c.loop-place.place low)));
+    }
 
 pub loop-place-preserved : goal.loop-place-preserved
 loop-place-preserved c =

@@ -1,12 +1,12 @@
 -- The least pair of classes that passes a test, found pair by pair; and the partition as one merge after the other.
-use Rattle.std.proofs.Common.{◌≡◌, ℕ, zero, suc, ◌+◌, ◌<◌, ◌≤◌, List, [], ◌∷◌, ◌++◌, Bool, true, false, refl, sym, subst, ap, arith, inl, inr, ◌⊎◌, ◌∙◌, true≢false, ◌==◌}
+use Rattle.std.proofs.Common.{◌≡◌, ℕ, zero, suc, ◌<◌, List, [], ◌∷◌, ◌++◌, Bool, true, false, refl, sym, subst, ap, arith, inl, inr, ◌∙◌, ◌==◌}
 use Rattle.std.proofs.Common.{map, filter, flat_map, nat_lt, length, tests}
 use Rattle.std.proofs.lemmas.List.Concat.{flat_map-append, flat_map-cons}
 use Rattle.tam_word.specs.Lists.{below, first_of}
 use Rattle.tam_word.proofs.Tests.{number-eq, test-below}
 use Rattle.tam_word.proofs.Members.{In, in-below, in-flat_map, in-map, in-filter}
 use Rattle.tam_split.specs.Blocks.{BlockGraph}
-use Rattle.tam_split.specs.Partitions.{Parts, pairs_below, least_pair, may_merge, merged, merged_while, partition_of, single}
+use Rattle.tam_split.specs.Partitions.{Parts, pairs_below, least_pair, merged, merged_while, partition_of, single}
 use Rattle.tam_split.proofs.Classes.{length-merged}
 use Rattle.tam_split.proofs.Partitioning.{in-pair, length-single}
 

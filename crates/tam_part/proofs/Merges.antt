@@ -1,5 +1,5 @@
 -- The partition of a block as one merge of the least pair after the other: what holds before, between and behind them.
-use Rattle.std.proofs.Common.{◌≡◌, ℕ, suc, ◌<◌, List, [], ◌∷◌, Bool, true, false, sym, subst, ap, ◌∙◌, arith, length, Option, Some, None, option_to_list}
+use Rattle.std.proofs.Common.{◌≡◌, ℕ, suc, ◌<◌, List, [], ◌∷◌, true, false, sym, subst, ap, ◌∙◌, arith, length, Option, Some, None, option_to_list}
 use Rattle.tam_word.proofs.Members.{one-first, none-first}
 use Rattle.tam_split.specs.Blocks.{BlockGraph}
 use Rattle.tam_split.specs.Partitions.{Parts, single, merged, may_merge, is_valid, pairs_below, least_pair, merged_while, partition_of}

@@ -1,5 +1,5 @@
 -- The least pair that may be made one by the ways to each class and from it is the least that may be merged.
-use Rattle.std.proofs.Common.{◌≡◌, ℕ, ◌<◌, List, [], ◌∷◌, Bool, true, false, refl, sym, ap, ap₂, ◌∙◌, inl, inr, length, map, get_or, IsTrue, arith}
+use Rattle.std.proofs.Common.{◌≡◌, ℕ, ◌<◌, List, [], ◌∷◌, Bool, true, false, refl, ap, ap₂, ◌∙◌, inl, inr, length, map, get_or, IsTrue, arith}
 use Rattle.tam_word.specs.Lists.{below, first_of}
 use Rattle.tam_word.proofs.Members.{In}
 use Rattle.tam_split.specs.Blocks.{BlockGraph}

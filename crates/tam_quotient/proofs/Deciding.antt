@@ -1,21 +1,21 @@
 -- Tests over what leads to the classes and from them decide which classes may be merged, and whether a partition is valid.
-use Rattle.std.proofs.Common.{◌≡◌, ℕ, ◌<◌, ◌≤◌, List, [], ◌∷◌, Bool, true, false, ◌&&◌, ◌||◌, refl, sym, subst, ap, arith, inl, inr, ◌⊎◌, ◌∙◌, true≢false, ◌==◌, length, not}
-use Rattle.tam_word.specs.Lists.{all_of, any_of, has, below}
+use Rattle.std.proofs.Common.{◌≡◌, ℕ, ◌<◌, ◌≤◌, [], ◌∷◌, Bool, true, false, ◌&&◌, ◌||◌, refl, sym, ap, arith, inl, inr, ◌⊎◌, ◌∙◌, true≢false, ◌==◌, length, not}
+use Rattle.tam_word.specs.Lists.{all_of, any_of, has}
 use Rattle.tam_word.proofs.Tests.{number-eq, eq-number, both-true, true-both}
-use Rattle.tam_word.proofs.Members.{In, all-in, in-all, in-has, has-in, in-filter, filter-in, in-below, below-in}
+use Rattle.tam_word.proofs.Members.{In, all-in, in-all, in-has, has-in, in-filter, filter-in, below-in}
 use Rattle.tam_graph.specs.Edges.{Edges, reaches, has_no_cycle}
 use Rattle.tam_split.specs.Blocks.{BlockGraph, vertex_at, places, inlets_of, outlets_of, dependences}
 use Rattle.tam_split.specs.Partitions.{Parts, class_of, class_edges, leads_to, merged, may_merge, is_valid}
 use Rattle.tam_split.specs.PartitionLaws.{IsBlockGraph}
 use Rattle.tam_split.proofs.Classes.{IsParts, parts-after}
 use Rattle.tam_split.proofs.Validity.{ClassLeads, leads_to-leads, leads-leads_to, Keeps, keeps-kept, Valid, is_valid-valid, valid-is_valid}
-use Rattle.tam_split.proofs.Separation.{Leak, Apart, apart-lost, lost-apart}
-use Rattle.tam_sets.specs.Sets.{places_where, with_place, met, joined, is_within}
-use Rattle.tam_quotient.specs.Quotients.{entering_of, allowed_of, ahead_of, behind_of, pair_of, may_join, closes_cycle, keeps_outlet}
-use Rattle.tam_sets.proofs.PlacesWhere.{where-in, has-where}
+use Rattle.tam_split.proofs.Separation.{Apart, apart-lost, lost-apart}
+use Rattle.tam_sets.specs.Sets.{joined, is_within}
+use Rattle.tam_quotient.specs.Quotients.{entering_of, allowed_of, pair_of, may_join, closes_cycle, keeps_outlet}
+use Rattle.tam_sets.proofs.PlacesWhere.{where-in}
 use Rattle.tam_quotient.proofs.Places.{same-test, member-passes}
 use Rattle.tam_quotient.proofs.Thirds.{NoneBetween, none-between, none-back, one-after}
-use Rattle.tam_quotient.proofs.Joining.{leads-within, inlet-place, outlet-place, inlet-there, within-no_leak, no_leak-within, on_way, way-member, member-way, pair-has, has-pair}
+use Rattle.tam_quotient.proofs.Joining.{inlet-place, outlet-place, inlet-there, within-no_leak, no_leak-within, on_way, way-member, member-way, pair-has, has-pair}
 
 module _ (b : BlockGraph) (graph : IsBlockGraph b) (few : length b.vertices ≤ 128) (ps : Parts) (parts : IsParts (length b.vertices) ps) (least : length ps ≤ 128) where
   -- ---- which classes may be merged

@@ -1,25 +1,24 @@
 -- By what leads to two classes of a valid partition and from them it is told whether they may be merged.
 use Rattle.std.proofs.Common.{◌≡◌, ℕ, ◌<◌, ◌≤◌, List, [], ◌∷◌, Bool, true, false, ◌&&◌, ◌||◌, refl, sym, subst, ap, arith, inl, inr, ◌⊎◌, ◌∙◌, true≢false, ◌==◌, length}
 use Rattle.std.proofs.Common.{nat_lt, zero, suc, slice_get}
-use Rattle.tam_word.specs.Lists.{all_of, has, below}
-use Rattle.tam_word.proofs.Tests.{number-eq, eq-number, number-differs, both-true, true-both, test-below, below-test}
-use Rattle.tam_word.proofs.Members.{In, any-in, all-in, in-all, in-map, in-has, has-in, in-filter, filter-in, in-below, below-in}
+use Rattle.tam_word.specs.Lists.{all_of, has}
+use Rattle.tam_word.proofs.Tests.{number-eq, eq-number, number-differs, both-true, true-both, below-test}
+use Rattle.tam_word.proofs.Members.{In, any-in, all-in, in-all, in-map, in-filter, filter-in, in-below, below-in}
 use Rattle.tam_graph.specs.Edges.{reaches}
 use Rattle.tam_graph.proofs.Walks.{reaches-walk, last-edge, is_edge}
 use Rattle.tam_graph.proofs.Quotients.{under}
 use Rattle.tam_split.specs.declared.vertex.Vertex.{Vertex}
 use Rattle.tam_split.specs.Blocks.{BlockGraph, vertex_at, or_vertex, places, inlets_of, outlets_of}
-use Rattle.tam_split.specs.Partitions.{Parts, class_of, leads_to, merged, may_merge}
+use Rattle.tam_split.specs.Partitions.{Parts, class_of, leads_to}
 use Rattle.tam_split.specs.PartitionLaws.{IsBlockGraph}
-use Rattle.tam_split.proofs.Classes.{IsParts, parts-after}
-use Rattle.tam_split.proofs.Validity.{ClassLeads, leads_to-leads, leads-leads_to, Keeps, Lost, Valid, is_valid-valid, valid-is_valid}
-use Rattle.tam_split.proofs.Separation.{Leak, Apart, apart-lost, lost-apart}
+use Rattle.tam_split.proofs.Classes.{IsParts}
+use Rattle.tam_split.proofs.Validity.{ClassLeads, leads_to-leads, leads-leads_to}
+use Rattle.tam_split.proofs.Separation.{Leak}
 use Rattle.tam_split.proofs.Partitioning.{edge-within}
-use Rattle.tam_sets.specs.Sets.{places_where, with_place, met, joined, is_within}
+use Rattle.tam_sets.specs.Sets.{with_place, met, is_within}
 use Rattle.tam_quotient.specs.Quotients.{leads_to_outlet, allows, ahead_of, behind_of, entering_of, allowed_of, pair_of}
 use Rattle.tam_sets.proofs.PlacesWhere.{where-in, has-where}
-use Rattle.tam_quotient.proofs.Places.{same-test, member-passes}
-use Rattle.tam_quotient.proofs.Thirds.{NoneBetween, none-between, none-back, one-after}
+use Rattle.tam_quotient.proofs.Places.{member-passes}
 
 -- a block of at most 128 places, in classes of which each place has one
 module _ (b : BlockGraph) (graph : IsBlockGraph b) (few : length b.vertices ≤ 128) (ps : Parts) (parts : IsParts (length b.vertices) ps) where

@@ -1,8 +1,7 @@
 -- Sets of places by the test that their members pass.
-use Rattle.std.proofs.Common.{◌≡◌, ℕ, zero, suc, ◌+◌, ◌<◌, ◌≤◌, List, [], ◌∷◌, ◌++◌, Bool, true, false, ◌&&◌, ◌||◌, refl, sym, ap, arith, ◌∙◌, true≢false, ◌==◌, inl, inr}
-use Rattle.std.proofs.Common.{nat_lt, filter, tests}
-use Rattle.tam_word.specs.Lists.{below, has}
-use Rattle.tam_word.proofs.Tests.{number-eq, self-eq, below-test, test-below, both-true, true-both}
+use Rattle.std.proofs.Common.{◌≡◌, ℕ, ◌+◌, ◌<◌, ◌≤◌, List, [], Bool, true, false, ◌&&◌, ◌||◌, refl, sym, ap, arith, ◌∙◌, ◌==◌}
+use Rattle.std.proofs.Common.{nat_lt, tests}
+use Rattle.tam_word.proofs.Tests.{number-eq}
 use Rattle.tam_word.proofs.Members.{In}
 use Rattle.tam_sets.specs.Sets.{places_where, with_place, met, joined}
 use Rattle.tam_sets.proofs.PlacesWhere.{places-same, in-where, in-passes, has-where, where-none}

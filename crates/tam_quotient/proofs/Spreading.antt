@@ -1,9 +1,8 @@
 -- What is reached with one edge more.
-use Rattle.std.proofs.Common.{◌≡◌, ℕ, List, [], ◌∷◌, ◌++◌, Bool, true, false, ◌&&◌, ◌||◌, refl, sym, subst, inl, inr, ◌⊎◌, ◌∙◌, true≢false, ◌==◌, map}
-use Rattle.tam_word.specs.Lists.{any_of, has}
+use Rattle.std.proofs.Common.{◌≡◌, ℕ, [], ◌∷◌, ◌++◌, Bool, true, false, ◌&&◌, ◌||◌, refl, sym, inl, inr, ◌∙◌, ◌==◌}
 use Rattle.tam_word.proofs.Members.{In, any-in, in-any, in-append, left-in, right-in}
 use Rattle.tam_graph.specs.Edges.{Edges, reaches, Walk, Stay, Along}
-use Rattle.tam_graph.proofs.Walks.{is_edge, walk-reaches, reaches-walk}
+use Rattle.tam_graph.proofs.Walks.{walk-reaches, reaches-walk}
 use Rattle.tam_sets.specs.Sets.{places_where, joined}
 use Rattle.tam_sets.proofs.PlacesWhere.{has-where, places-same}
 use Rattle.tam_quotient.proofs.Places.{same-test}

@@ -1,5 +1,5 @@
 -- The ways read from tables of classes, of what they lead to and of dependences are those of the partition.
-use Rattle.std.proofs.Common.{◌≡◌, ℕ, zero, suc, ◌+◌, ◌<◌, ◌≤◌, List, [], ◌∷◌, ◌++◌, Bool, true, false, ◌&&◌, refl, sym, ap, ap₂, subst, arith, ◌∙◌, true≢false, ◌==◌}
+use Rattle.std.proofs.Common.{◌≡◌, ℕ, ◌+◌, ◌<◌, ◌≤◌, List, [], ◌∷◌, ◌++◌, Bool, true, false, ◌&&◌, refl, sym, ap, ap₂, subst, arith, ◌∙◌, true≢false}
 use Rattle.std.proofs.Common.{length, map, get_or, nat_lt, inl, inr, tests}
 use Rattle.std.specs.List.{concat}
 use Rattle.std.proofs.lemmas.List.{length-append}
@@ -10,7 +10,7 @@ use Rattle.tam_word.proofs.Members.{In, in-below, get-in, in-has, has-in, in-fil
 use Rattle.tam_graph.specs.Edges.{Edges, reaches}
 use Rattle.tam_graph.proofs.Quotients.{under, unlooped-reaches, reaches-unlooped}
 use Rattle.tam_split.specs.Blocks.{BlockGraph, vertex_at, places, inlets_of, dependences}
-use Rattle.tam_split.specs.Partitions.{Parts, class_of, leads_to, class_edges}
+use Rattle.tam_split.specs.Partitions.{Parts, class_of, leads_to}
 use Rattle.tam_split.specs.PartitionLaws.{IsBlockGraph, IsPartition}
 use Rattle.tam_split.specs.KeptParts.{AreClasses}
 use Rattle.tam_split.proofs.Partitioning.{edge-within}

@@ -1,19 +1,19 @@
 -- Lists and sets that grow by one number, and what stands at a place of a list that has an entry for each number.
-use Rattle.std.proofs.Common.{◌≡◌, ℕ, zero, suc, ◌+◌, ◌<◌, ◌≤◌, List, [], ◌∷◌, ◌++◌, Bool, true, false, ◌&&◌, ◌||◌, refl, sym, ap, subst, arith, ◌∙◌, true≢false, ◌==◌}
-use Rattle.std.proofs.Common.{length, map, get_or, take, slice_get, nat_lt, tests, inl, inr}
+use Rattle.std.proofs.Common.{◌≡◌, ℕ, zero, suc, ◌+◌, ◌<◌, ◌≤◌, List, [], ◌∷◌, ◌++◌, Bool, true, false, ◌&&◌, refl, sym, ap, subst, arith, ◌∙◌, true≢false, ◌==◌}
+use Rattle.std.proofs.Common.{length, map, get_or, take, slice_get}
 use Rattle.std.proofs.lemmas.List.{map-append, get_or-map, ext_get_or, take_more}
 use Rattle.std.proofs.lemmas.Option.{get_or_from_slice_get, slice_get-get_or}
 use Rattle.std.specs.List.{list_any}
 use Rattle.tam_word.specs.Lists.{below, all_of, any_of, has}
-use Rattle.tam_word.proofs.Tests.{number-eq, eq-number, both-true, true-both}
-use Rattle.tam_word.proofs.Members.{In, in-has, has-in, in-any, get-in}
+use Rattle.tam_word.proofs.Tests.{number-eq, eq-number}
+use Rattle.tam_word.proofs.Members.{in-has, in-any, get-in}
 use Rattle.tam_graph.specs.Edges.{Edges, reaches}
 use Rattle.tam_split.specs.declared.vertex.Vertex.{Vertex}
 use Rattle.tam_split.specs.Blocks.{BlockGraph, vertex_at, or_vertex}
 use Rattle.tam_split.specs.Partitions.{Parts, class_of, class_at}
 use Rattle.tam_split.proofs.Partitioning.{length-below, length-map, below-get}
 use Rattle.tam_split.proofs.Classes.{class-stands, stands-in}
-use Rattle.tam_sets.specs.Sets.{places_where, with_place, met, joined}
+use Rattle.tam_sets.specs.Sets.{places_where, with_place, met}
 use Rattle.tam_sets.proofs.PlacesWhere.{places-same, has-where}
 use Rattle.tam_quotient.specs.Tables.{set_at}
 use Rattle.tam_quotient.specs.Spreads.{renamed, grown}

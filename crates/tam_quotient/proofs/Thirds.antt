@@ -1,8 +1,8 @@
 -- A merge of two classes of a valid partition closes a cycle exactly where a third class stands between the two.
-use Rattle.std.proofs.Common.{◌≡◌, ℕ, suc, pred, ◌<◌, nat_lt, tests, ◌==◌, Bool, true, false, refl, sym, subst, ap, arith, inl, inr, ◌⊎◌, ◌∙◌, length}
+use Rattle.std.proofs.Common.{◌≡◌, ℕ, suc, pred, ◌<◌, nat_lt, tests, ◌==◌, Bool, true, false, refl, sym, subst, ap, arith, inl, inr, ◌⊎◌, ◌∙◌}
 use Rattle.tam_word.proofs.Tests.{number-eq}
-use Rattle.tam_graph.specs.Edges.{Edges, reaches}
-use Rattle.tam_graph.proofs.Reaching.{reaches-self, reaches-trans}
+use Rattle.tam_graph.specs.Edges.{Edges}
+use Rattle.tam_graph.proofs.Reaching.{reaches-trans}
 use Rattle.tam_graph.proofs.Merging.{made_one, Joined, To, From}
 use Rattle.tam_graph.proofs.Quotients.{under, Leads, After, three-ways, skip, unskip, unskip-skip, skip-other, skip-made_one}
 use Rattle.tam_graph.proofs.Quotients.{becomes, becomes-one, leads-after, after-leads}

@@ -1,5 +1,5 @@
 -- What is reached by edges whose ends are renamed, as one edge after the other is looked at.
-use Rattle.std.specs.Prelude.{ℕ, ◌<◌, Bool, true, false, List, map, length, slice_index, slice_index_or}
+use Rattle.std.specs.Prelude.{ℕ, ◌<◌, true, false, List, map, length, slice_index, slice_index_or}
 use Rattle.tam_word.specs.Lists.{has}
 use Rattle.tam_graph.specs.Edges.{Edges}
 use Rattle.tam_sets.specs.Sets.{joined}

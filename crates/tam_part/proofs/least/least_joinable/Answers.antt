@@ -1,4 +1,4 @@
-use Rattle.std.proofs.Common.{◌≡◌, ◌+◌, ◌<◌, ◌≤◌, ℕ, ◌∙◌, refl, sym, subst, arith, length, Bool, true, false, ◌==◌, tests}
+use Rattle.std.proofs.Common.{◌≡◌, ◌<◌, ◌∙◌, refl, sym, subst, arith, length, Bool, true, false, ◌==◌}
 use Rattle.tam_word.proofs.Tests.{number-eq, number-differs}
 use Rattle.tam_part.specs.Joinable.{joins_at}
 use Rattle.tam_part.proofs.LeastPairs.{pair-first, pair-none}

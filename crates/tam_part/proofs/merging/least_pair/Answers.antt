@@ -1,7 +1,4 @@
-use Rattle.std.proofs.Common.{◌≡◌, ◌≤◌, ◌∙◌, ap, arith, length}
-use Rattle.tam_word.specs.Lists.{first_of}
-use Rattle.tam_split.specs.Partitions.{pairs_below}
-use Rattle.tam_part.specs.Joinable.{joins_at}
+use Rattle.std.proofs.Common.{◌∙◌, ap, arith, length}
 use Rattle.tam_part.proofs.Told.{least-told}
 use Rattle.tam_part.proofs.merging.least_pair.Goals as goal
 

@@ -1,4 +1,4 @@
-use Rattle.std.proofs.Common.{◌≡◌, ◌<◌, ◌∙◌, ap, length}
+use Rattle.std.proofs.Common.{◌∙◌, ap, length}
 use Rattle.tam_split.specs.Partitions.{single, least_pair}
 use Rattle.tam_part.proofs.Merges.{begun, least-pair, fewer, merged-on, ended, stuck, some-pair, no-pair}
 use Rattle.tam_part.proofs.merging.partition.Goals as goal

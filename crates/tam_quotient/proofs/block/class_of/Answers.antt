@@ -1,6 +1,5 @@
-use Rattle.std.proofs.Common.{◌≡◌, ◌<◌, ◌≤◌, ◌∙◌, sym, ap, arith, true}
+use Rattle.std.proofs.Common.{◌∙◌, sym, ap, arith}
 use Rattle.tam_word.specs.Lists.{has}
-use Rattle.tam_split.specs.Partitions.{class_at}
 use Rattle.tam_quotient.proofs.Tabling.{class-found, class-missed}
 use Rattle.tam_quotient.proofs.Surroundings.{few-classes}
 use Rattle.tam_quotient.proofs.block.class_of.Goals as goal

@@ -1,4 +1,4 @@
-use Rattle.std.proofs.Common.{◌≡◌, ◌+◌, ◌<◌, ◌≤◌, ℕ, Bool, true, false, ◌&&◌, length, map, take}
+use Rattle.std.proofs.Common.{◌≡◌, ◌<◌, ℕ, false}
 use Rattle.tam_word.specs.Lists.{has}
 use Rattle.tam_split.specs.Partitions.{class_at}
 use Rattle.tam_quotient.proofs.block.class_of.Given as goal

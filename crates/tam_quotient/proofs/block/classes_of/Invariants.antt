@@ -1,4 +1,4 @@
-use Rattle.std.proofs.Common.{◌≡◌, ◌+◌, ◌<◌, ◌≤◌, ℕ, Bool, true, false, ◌&&◌, length, map, take}
+use Rattle.std.proofs.Common.{◌≡◌, map}
 use Rattle.tam_word.specs.Lists.{below}
 use Rattle.tam_split.specs.Partitions.{class_of}
 use Rattle.tam_quotient.proofs.block.classes_of.Given as goal

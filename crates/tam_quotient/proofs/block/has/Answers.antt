@@ -1,4 +1,4 @@
-use Rattle.std.proofs.Common.{◌≡◌, ◌∙◌}
+use Rattle.std.proofs.Common.{◌∙◌}
 use Rattle.tam_quotient.proofs.Tabling.{list_any-has}
 use Rattle.tam_quotient.proofs.block.has.Goals as goal
 

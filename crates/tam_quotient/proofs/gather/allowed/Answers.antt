@@ -1,9 +1,9 @@
-use Rattle.std.proofs.Common.{◌≡◌, ℕ, ◌+◌, ◌<◌, ◌≤◌, [], Bool, true, false, refl, sym, ap, arith, ◌∙◌, length}
+use Rattle.std.proofs.Common.{◌≡◌, ℕ, ◌<◌, [], Bool, true, false, refl, sym, ap, arith, ◌∙◌, length}
 use Rattle.std.proofs.lemmas.List.{get_or_read}
-use Rattle.tam_word.specs.Lists.{has, below, all_of}
+use Rattle.tam_word.specs.Lists.{has}
 use Rattle.tam_split.specs.Blocks.{vertex_at}
-use Rattle.tam_sets.specs.Sets.{places_where, met}
-use Rattle.tam_quotient.specs.Tables.{is_met, is_led_to, set_at}
+use Rattle.tam_sets.specs.Sets.{met}
+use Rattle.tam_quotient.specs.Tables.{is_met, is_led_to}
 use Rattle.tam_quotient.proofs.Tabling.{met-more, met-same}
 use Rattle.tam_quotient.proofs.gather.allowed.Goals as goal
 use Rattle.tam_quotient.proofs.gather.allowed.Goals.{then-is_led_to, else-is_led_to}

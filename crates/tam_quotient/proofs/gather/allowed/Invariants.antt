@@ -1,4 +1,4 @@
-use Rattle.std.proofs.Common.{◌≡◌, ◌+◌, ◌<◌, ◌≤◌, ℕ, Bool, true, false, ◌&&◌, length, map, take}
+use Rattle.std.proofs.Common.{◌≡◌, ◌&&◌}
 use Rattle.tam_word.specs.Lists.{all_of, below}
 use Rattle.tam_split.specs.Blocks.{vertex_at}
 use Rattle.tam_sets.specs.Sets.{places_where}

@@ -1,9 +1,9 @@
-use Rattle.std.proofs.Common.{◌≡◌, ℕ, ◌+◌, ◌<◌, ◌≤◌, [], Bool, true, false, sym, ap, arith, ◌∙◌, get_or, length}
+use Rattle.std.proofs.Common.{◌≡◌, ℕ, [], Bool, sym, ap, ◌∙◌}
 use Rattle.std.proofs.lemmas.List.{get_or_read}
 use Rattle.tam_word.specs.Lists.{has}
 use Rattle.tam_sets.specs.Sets.{with_place}
 use Rattle.tam_quotient.specs.Tables.{set_at}
-use Rattle.tam_quotient.proofs.Places.{upto, upto-none, upto-put, upto-skip}
+use Rattle.tam_quotient.proofs.Places.{upto-none, upto-put, upto-skip}
 use Rattle.tam_quotient.proofs.gather.behind.Goals as goal
 use Rattle.tam_quotient.proofs.gather.behind.Goals.{then-has, else-has}
 

@@ -1,4 +1,4 @@
-use Rattle.std.proofs.Common.{◌≡◌, ◌+◌, ◌<◌, ◌≤◌, ℕ, Bool, true, false, ◌&&◌, length, map, take}
+use Rattle.std.proofs.Common.{◌≡◌}
 use Rattle.tam_word.specs.Lists.{has}
 use Rattle.tam_quotient.specs.Tables.{set_at}
 use Rattle.tam_quotient.proofs.Places.{upto}

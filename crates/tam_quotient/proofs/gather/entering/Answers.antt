@@ -1,8 +1,7 @@
-use Rattle.std.proofs.Common.{◌≡◌, ℕ, ◌+◌, ◌<◌, ◌≤◌, Bool, true, false, refl, sym, ap, arith, ◌∙◌, length}
-use Rattle.tam_split.specs.Blocks.{vertex_at}
+use Rattle.std.proofs.Common.{ℕ, ◌≤◌, Bool, refl, sym, ap, arith, ◌∙◌, length}
 use Rattle.tam_sets.specs.Sets.{with_place}
 use Rattle.tam_quotient.specs.Tables.{enters}
-use Rattle.tam_quotient.proofs.Places.{upto, upto-none, upto-put, upto-skip, upto-all}
+use Rattle.tam_quotient.proofs.Places.{upto-none, upto-put, upto-skip, upto-all}
 use Rattle.tam_quotient.proofs.Tabling.{none-inlet}
 use Rattle.tam_quotient.proofs.gather.entering.Goals as goal
 use Rattle.tam_quotient.proofs.gather.entering.Goals.{then-enters, else-enters}

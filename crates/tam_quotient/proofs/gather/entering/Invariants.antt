@@ -1,4 +1,4 @@
-use Rattle.std.proofs.Common.{◌≡◌, ◌+◌, ◌<◌, ◌≤◌, ℕ, Bool, true, false, ◌&&◌, length, map, take}
+use Rattle.std.proofs.Common.{◌≡◌}
 use Rattle.tam_quotient.specs.Tables.{enters}
 use Rattle.tam_quotient.proofs.Places.{upto}
 use Rattle.tam_quotient.proofs.gather.entering.Given as goal

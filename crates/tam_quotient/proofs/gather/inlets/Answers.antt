@@ -1,7 +1,7 @@
-use Rattle.std.proofs.Common.{◌≡◌, ℕ, ◌+◌, ◌<◌, ◌≤◌, Bool, true, false, refl, sym, ap, arith, ◌∙◌, length}
+use Rattle.std.proofs.Common.{ℕ, ◌≤◌, Bool, sym, ap, arith, ◌∙◌, length}
 use Rattle.tam_split.specs.Blocks.{vertex_at}
 use Rattle.tam_sets.specs.Sets.{with_place}
-use Rattle.tam_quotient.proofs.Places.{upto, upto-none, upto-put, upto-skip, upto-all}
+use Rattle.tam_quotient.proofs.Places.{upto-none, upto-put, upto-skip, upto-all}
 use Rattle.tam_quotient.proofs.Tabling.{none-inlet}
 use Rattle.tam_quotient.proofs.gather.inlets.Goals as goal
 use Rattle.tam_quotient.proofs.gather.inlets.Goals.{then-is_inlet, else-is_inlet}

@@ -1,4 +1,4 @@
-use Rattle.std.proofs.Common.{◌≡◌, ◌+◌, ◌<◌, ◌≤◌, ℕ, Bool, true, false, ◌&&◌, length, map, take}
+use Rattle.std.proofs.Common.{◌≡◌}
 use Rattle.tam_split.specs.Blocks.{vertex_at}
 use Rattle.tam_quotient.proofs.Places.{upto}
 use Rattle.tam_quotient.proofs.gather.inlets.Given as goal

@@ -1,4 +1,4 @@
-use Rattle.std.proofs.Common.{◌≡◌, ◌+◌, ◌<◌, ◌≤◌, ℕ, List, [], ◌∷◌, ◌++◌, ◌∙◌, sym, ap, ap₂, arith, length, map, true, not, is_ok}
+use Rattle.std.proofs.Common.{◌≡◌, [], ◌∷◌, ◌++◌, ◌∙◌, sym, ap, ap₂, arith, length, true, not, is_ok}
 use Rattle.tam_word.specs.Lists.{below}
 use Rattle.tam_quotient.specs.declared.ways.Ways.{Ways}
 use Rattle.tam_quotient.specs.Joins.{ways_of}

@@ -1,4 +1,4 @@
-use Rattle.std.proofs.Common.{◌≡◌, ◌+◌, ◌<◌, ◌≤◌, ℕ, Bool, true, false, ◌&&◌, length, map, take}
+use Rattle.std.proofs.Common.{◌≡◌, map}
 use Rattle.tam_word.specs.Lists.{below}
 use Rattle.tam_quotient.specs.Joins.{ways_of}
 use Rattle.tam_quotient.proofs.gather.quotient.Given as goal

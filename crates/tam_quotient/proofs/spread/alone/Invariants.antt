@@ -1,4 +1,4 @@
-use Rattle.std.proofs.Common.{◌≡◌, ◌+◌, ◌<◌, ◌≤◌, ℕ, Bool, true, false, ◌&&◌, length, map, take}
+use Rattle.std.proofs.Common.{◌≡◌, map}
 use Rattle.std.proofs.Common.{[]}
 use Rattle.tam_word.specs.Lists.{below}
 use Rattle.tam_sets.specs.Sets.{with_place}

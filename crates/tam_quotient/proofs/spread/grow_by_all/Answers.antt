@@ -1,4 +1,4 @@
-use Rattle.std.proofs.Common.{◌≡◌, ◌+◌, ◌<◌, ◌≤◌, ℕ, [], ◌∷◌, ◌++◌, ◌∙◌, sym, ap, subst, arith, length, take, get_or}
+use Rattle.std.proofs.Common.{◌<◌, ℕ, ◌∙◌, sym, ap, arith, length, take, get_or}
 use Rattle.tam_graph.specs.Edges.{reaches}
 use Rattle.tam_sets.specs.Sets.{places_where}
 use Rattle.tam_quotient.specs.Tables.{set_at}

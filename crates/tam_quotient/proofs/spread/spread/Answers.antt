@@ -1,4 +1,4 @@
-use Rattle.std.proofs.Common.{◌≡◌, ◌+◌, ◌<◌, ◌≤◌, ℕ, [], ◌∷◌, ◌++◌, ◌∙◌, sym, ap, subst, arith, length, take, drop, get_or}
+use Rattle.std.proofs.Common.{◌≡◌, ◌<◌, ℕ, [], ◌++◌, ◌∙◌, sym, ap, subst, arith, length, take, drop}
 use Rattle.std.proofs.Common.{List, map}
 use Rattle.tam_word.specs.Lists.{below}
 use Rattle.std.proofs.Math.Seq.{take-append_seam}

@@ -1,10 +1,10 @@
-use Rattle.std.proofs.Common.{◌≡◌, ◌+◌, ◌<◌, ◌≤◌, ℕ, ◌∙◌, refl, sym, ap, ap₂, subst, arith, length, true, false, not, ◌==◌, get_or}
+use Rattle.std.proofs.Common.{◌≡◌, ◌<◌, ℕ, ◌∙◌, refl, sym, ap, ap₂, arith, length, false, ◌==◌, get_or}
 use Rattle.tam_word.specs.Lists.{has}
 use Rattle.tam_word.proofs.Tests.{differs-number}
 use Rattle.tam_split.specs.Partitions.{class_of, leads_to}
 use Rattle.tam_sets.proofs.PlacesWhere.{has-where}
 use Rattle.tam_quotient.specs.declared.ways.Ways.{Ways}
-use Rattle.tam_quotient.specs.Quotients.{closes_cycle, ahead_of}
+use Rattle.tam_quotient.specs.Quotients.{closes_cycle}
 use Rattle.tam_quotient.proofs.Surroundings.{way-read, ways-count, edge-classes}
 use Rattle.tam_quotient.proofs.validity.closes_cycle.Goals as goal
 

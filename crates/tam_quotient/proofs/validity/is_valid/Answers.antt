@@ -1,9 +1,8 @@
-use Rattle.std.proofs.Common.{◌≡◌, ◌+◌, ◌<◌, ◌≤◌, ℕ, Bool, ◌∙◌, refl, sym, ap, subst, arith, length, true, false, not, ◌&&◌, get_or}
-use Rattle.tam_word.specs.Lists.{all_of, any_of, below}
+use Rattle.std.proofs.Common.{◌≡◌, ◌<◌, ◌≤◌, ℕ, Bool, ◌∙◌, refl, sym, ap, subst, arith, length, true}
+use Rattle.tam_word.specs.Lists.{all_of, below}
 use Rattle.tam_word.proofs.AllOf.{all_of-fails}
 use Rattle.tam_word.proofs.Members.{has-below}
 use Rattle.tam_split.proofs.Classes.{partition-parts}
-use Rattle.tam_split.specs.Partitions.{is_valid}
 use Rattle.tam_quotient.specs.Quotients.{closes_cycle, keeps_outlet}
 use Rattle.tam_quotient.proofs.Tabling.{all-more, any-at, none-at}
 use Rattle.tam_quotient.proofs.Deciding.{closes-not_valid, not_kept-not_valid, tests-valid}

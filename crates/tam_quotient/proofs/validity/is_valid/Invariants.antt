@@ -1,4 +1,4 @@
-use Rattle.std.proofs.Common.{◌≡◌, ◌<◌, ℕ, true, false, length, get_or}
+use Rattle.std.proofs.Common.{◌≡◌, ◌<◌, ℕ, true, false, get_or}
 use Rattle.tam_word.specs.Lists.{all_of, below}
 use Rattle.tam_quotient.specs.Quotients.{closes_cycle, keeps_outlet}
 use Rattle.tam_quotient.proofs.validity.is_valid.Given as goal

@@ -1,6 +1,5 @@
-use Rattle.std.proofs.Common.{◌≡◌, ◌+◌, ◌<◌, ◌≤◌, ◌∙◌, refl, sym, ap, ap₂, subst, arith, length, true, false}
+use Rattle.std.proofs.Common.{◌≡◌, ◌<◌, ◌∙◌, refl, sym, ap, ap₂, arith, length, true}
 use Rattle.tam_split.specs.Blocks.{dependences, vertex_at}
-use Rattle.tam_split.specs.Partitions.{class_of}
 use Rattle.tam_sets.specs.Sets.{is_within}
 use Rattle.tam_quotient.specs.declared.ways.Ways.{Ways}
 use Rattle.tam_quotient.specs.Quotients.{keeps_outlet, entering_of}

@@ -1,4 +1,4 @@
-use Rattle.std.proofs.Common.{◌≡◌, ◌∙◌, ap, ap₂}
+use Rattle.std.proofs.Common.{◌∙◌, ap, ap₂}
 use Rattle.tam_sets.specs.Sets.{with_place, joined, is_within}
 use Rattle.tam_quotient.proofs.ways.Ways.has_none_between.Goals as goal
 

@@ -1,5 +1,6 @@
 -- Lines that say head lines and statements have no fault.
-use Rattle.std.proofs.Common.{◌≡◌, ℕ, ◌+◌, ◌≤◌, ◌<◌, Bool, true, false, eqb, leb, not, ◌&&◌, ◌||◌, List, [], ◌∷◌, ◌++◌, length, map, Option, Some, None, is_some}
+use Rattle.std.proofs.Common.{◌≡◌, ℕ, ◌+◌, ◌≤◌, ◌<◌, Bool, true, false, eqb, leb, not, ◌&&◌, ◌||◌, List, [], ◌∷◌, ◌++◌, length, map, Option, Some}
+use Rattle.std.proofs.Common.{None, is_some}
 use Rattle.std.proofs.Common.{Result, Ok, Err, refl, sym, ap, subst, ◌∙◌, arith, true≢false, append_assoc}
 use Rattle.std.specs.Prelude.{◌==◌}
 use Rattle.std.proofs.lemmas.Bool.{leb-true, eqb-true}
@@ -49,7 +50,7 @@ comment_good (b ∷ bs) e =
     go here others true p = ap are_good_bytes (way_true (b == 35) [] (b ∷ without_comment bs) p)
     go here others false p =
         let same : is_good_byte b (without_comment bs) ≡ is_good_byte b bs =
-          ap (λ (t : Bool). (b == 10) || ((b == 9) || ((leb 32 b && leb b 126) || ((b == 13) && t)))) (end_same bs) in
+        ap (λ (t : Bool). (b == 10) || ((b == 9) || ((leb 32 b && leb b 126) || ((b == 13) && t)))) (end_same bs) in
         ap are_good_bytes (way_false (b == 35) [] (b ∷ without_comment bs) p)
         ∙ good_with (is_good_byte b (without_comment bs)) (are_good_bytes (without_comment bs)) (same ∙ here) others
 
@@ -104,14 +105,15 @@ statement_none : (s : Said) (st : Statement) (ss : List Statement) → Fits s (s
 statement_none s (Label name) ss f =
     let more = labels_from (length s.words) ss in
     let all : all_differ same_bytes (names s.labels ++ name ∷ names more) ≡ true =
-      sym (ap (all_differ same_bytes) (map-append (λ (l : List ℕ × ℕ). l.0) s.labels ((name, length s.words) ∷ more))) ∙ f.differ in
+    sym (ap (all_differ same_bytes) (map-append (λ (l : List ℕ × ℕ). l.0) s.labels ((name, length s.words) ∷ more))) ∙ f.differ in
     ap (λ (t : Bool). where_so t TwiceNamed) (found-among name s.labels ∙ new_within (names s.labels) name (names more) all)
 statement_none s (Coded c) ss f = let few = f.few in ap (λ (t : Bool). where_so t TooMany) (not_many (length s.words) (omega arith))
 
 -- and the others stand behind it
 statement_fits : (s : Said) (n : ℕ) (st : Statement) (ss : List Statement) → Fits s (st ∷ ss) → Fits (with_statement n (Ok st) s) ss
 statement_fits s n (Label name) ss f = record {
-  differ = ap (λ (ls : Labels). all_differ same_bytes (names ls)) (append_assoc s.labels ((name, length s.words) ∷ []) (labels_from (length s.words) ss)) ∙ f.differ;
+  differ = ap (λ (ls : Labels). all_differ same_bytes (names ls)) (append_assoc s.labels ((name, length s.words) ∷ []) (labels_from
+      (length s.words) ss)) ∙ f.differ;
   few = f.few;
   some = f.some;
 }
@@ -175,7 +177,8 @@ abbrev pub NoneBehind : ℕ → Image → ℕ → List (List ℕ) → Said → T
 NoneBehind last image n ls t = (ss : List Statement) → AreLines image ss t.next (rows ls) → Fits t ss → first_pass last t n ls ≡ []
 
 -- a line that says a statement
-body_back : (last : ℕ) (image : Image) (s : Said) (n : ℕ) (line t : List ℕ) (ts : List (List ℕ)) (ls : List (List ℕ)) (ss : List Statement) → tokens_of line ≡ t ∷ ts
+body_back : (last : ℕ) (image : Image) (s : Said) (n : ℕ) (line t : List ℕ) (ts : List (List ℕ)) (ls : List (List ℕ)) (ss : List Statement)
+    → tokens_of line ≡ t ∷ ts
     → is_body s.next ≡ true → are_good_bytes line ≡ true → map statement_of ((t ∷ ts) ∷ rows ls) ≡ map Ok ss → Fits s ss
     → NoneBehind last image (n + 1) ls (with_tokens n (tokens_of line) s)
     → first_pass last s n (line ∷ ls) ≡ []
@@ -186,7 +189,7 @@ body_back last image s n line t ts ls (st ∷ ss) e b g h f more =
     let new : with_tokens n (tokens_of line) s ≡ with_statement n (Ok st) s = adds_statement n s line t ts (Ok st) e b is in
     let rest : NoneBehind last image (n + 1) ls (with_statement n (Ok st) s) = subst (NoneBehind last image (n + 1) ls) new more in
     let lines : AreLines image ss (with_statement n (Ok st) s).next (rows ls) =
-      subst (λ (k : Next). AreLines image ss k (rows ls)) (sym (stays st)) others in
+    subst (λ (k : Next). AreLines image ss k (rows ls)) (sym (stays st)) others in
     both_none {Y = ℕ × AsmCause} (λ c. (n, c)) (faults_of_line s line) _
     (body_faultless s line b g (ap (faults_of_tokens s) e ∙ ap (faults_of_statement s) is ∙ statement_none s st ss f))
     (ap (λ (w : Said). first_pass last w (n + 1) ls) new ∙ rest ss lines (statement_fits s n st ss f))
@@ -196,7 +199,8 @@ body_back last image s n line t ts ls (st ∷ ss) e b g h f more =
     stays (Coded c) = body_next s.next b
 
 -- a head line
-head_back : (last : ℕ) (image : Image) (s : Said) (n : ℕ) (line t : List ℕ) (ts : List (List ℕ)) (ls : List (List ℕ)) (ss : List Statement) → tokens_of line ≡ t ∷ ts
+head_back : (last : ℕ) (image : Image) (s : Said) (n : ℕ) (line t : List ℕ) (ts : List (List ℕ)) (ls : List (List ℕ)) (ss : List Statement)
+    → tokens_of line ≡ t ∷ ts
     → is_body s.next ≡ false → are_good_bytes line ≡ true → AreLines image ss s.next ((t ∷ ts) ∷ rows ls) → Fits s ss
     → NoneBehind last image (n + 1) ls (with_tokens n (tokens_of line) s)
     → first_pass last s n (line ∷ ls) ≡ []
@@ -210,15 +214,19 @@ head_back last image s n line t ts ls ss e b g h f more =
     (ap (λ (w : Said). first_pass last w (n + 1) ls) new ∙ rest ss row.1 (head_fits s m ss f))
 
 -- a line without tokens
-skip_back : (last : ℕ) (image : Image) (s : Said) (n : ℕ) (line : List ℕ) (ls : List (List ℕ)) (ss : List Statement) → tokens_of line ≡ [] → are_good_bytes line ≡ true
-    → AreLines image ss s.next (rows ls) → Fits s ss → NoneBehind last image (n + 1) ls (with_tokens n (tokens_of line) s) → first_pass last s n (line ∷ ls) ≡ []
+skip_back : (last : ℕ) (image : Image) (s : Said) (n : ℕ) (line : List ℕ) (ls : List (List ℕ)) (ss : List Statement) → tokens_of line ≡ []
+    → are_good_bytes line ≡ true
+    → AreLines image ss s.next (rows ls) → Fits s ss → NoneBehind last image (n + 1) ls (with_tokens n (tokens_of line) s)
+    → first_pass last s n (line ∷ ls) ≡ []
 skip_back last image s n line ls ss e g h f more =
     let new : with_tokens n (tokens_of line) s ≡ s = adds_nothing n s line e in
     let rest : NoneBehind last image (n + 1) ls s = subst (NoneBehind last image (n + 1) ls) new more in
-    both_none {Y = ℕ × AsmCause} (λ c. (n, c)) (faults_of_line s line) _ (skip_faultless s line e g) (ap (λ (w : Said). first_pass last w (n + 1) ls) new ∙ rest ss h f)
+    both_none {Y = ℕ × AsmCause} (λ c. (n, c)) (faults_of_line s line) _ (skip_faultless s line e g) (ap (λ (w : Said). first_pass last w
+    (n + 1) ls) new ∙ rest ss h f)
 
 -- one line, by its tokens
-line_back : (last : ℕ) (image : Image) (s : Said) (n : ℕ) (line : List ℕ) (ls : List (List ℕ)) (ss : List Statement) (ts : List (List ℕ)) (b : Bool) → tokens_of line ≡ ts
+line_back : (last : ℕ) (image : Image) (s : Said) (n : ℕ) (line : List ℕ) (ls : List (List ℕ)) (ss : List Statement) (ts : List (List ℕ))
+    (b : Bool) → tokens_of line ≡ ts
     → is_body s.next ≡ b → are_good_bytes line ≡ true → AreLines image ss s.next (rows (line ∷ ls)) → Fits s ss
     → NoneBehind last image (n + 1) ls (with_tokens n (tokens_of line) s) → first_pass last s n (line ∷ ls) ≡ []
 line_back last image s n line ls ss [] b e q g h f more =

@@ -1,5 +1,6 @@
 -- Lines without a fault say the head lines and the statements of what they add.
-use Rattle.std.proofs.Common.{◌≡◌, ℕ, ◌+◌, Bool, true, false, List, [], ◌∷◌, ◌++◌, length, map, Option, Some, None, is_some, refl, sym, ap, ap₂, subst, ◌∙◌, true≢false}
+use Rattle.std.proofs.Common.{◌≡◌, ℕ, ◌+◌, Bool, true, false, List, [], ◌∷◌, ◌++◌, length, map, Option, Some, None, is_some, refl, sym, ap, ap₂}
+use Rattle.std.proofs.Common.{subst, ◌∙◌, true≢false}
 use Rattle.std.proofs.Common.{Result, Ok, Err, append_assoc}
 use Rattle.std.proofs.lemmas.List.{append-nil, map-append, length-append}
 use Rattle.tam_word.specs.Lists.{all_of, any_of, all_differ, same_bytes, where_so}
@@ -12,7 +13,8 @@ use Rattle.rv_asm.specs.declared.head.Next.TheVariants as next
 use Rattle.rv_asm.specs.Head.{head_number, behind, is_body}
 use Rattle.rv_asm.specs.Tokens.{tokens_of}
 use Rattle.rv_asm.specs.Statements.{Code, Statement, Label, Coded, statement_of}
-use Rattle.rv_asm.specs.Faults.{Said, Labels, Placed, found, with_number, with_head, with_statement, with_tokens, said_from, faults_of_statement, faults_of_line}
+use Rattle.rv_asm.specs.Faults.{Said, Labels, Placed, found, with_number, with_head, with_statement, with_tokens, said_from, faults_of_statement}
+use Rattle.rv_asm.specs.Faults.{faults_of_line}
 use Rattle.rv_asm.specs.Faults.{faults_at_end, first_pass}
 use Rattle.rv_asm.specs.Reading.{labels_from, codes_in, number_in, AreLines}
 use Rattle.rv_asm.specs.Sound.{codes_of}
@@ -154,9 +156,9 @@ by_tokens image z s n line ls (t ∷ ts) false p q f is agrees h =
     let old : SomeReads image (with_head (Some there.0) s) ls z = subst (λ (w : Said). SomeReads image w ls z) new h in
     let end : z ≡ said_from (with_head (Some there.0) s) (n + 1) ls = is ∙ ap (λ (w : Said). said_from w (n + 1) ls) new in
     let same : there.0 ≡ number_in s.next image =
-        sym (number_put s.next there.0 s (t ∷ ts) there.1 q)
-        ∙ sym (lines_keep s.next (with_head (Some there.0) s) (n + 1) ls (behind_later s.next q))
-        ∙ sym (ap (said_number s.next) end) ∙ agrees.same s.next in
+    sym (number_put s.next there.0 s (t ∷ ts) there.1 q)
+    ∙ sym (lines_keep s.next (with_head (Some there.0) s) (n + 1) ls (behind_later s.next q))
+    ∙ sym (ap (said_number s.next) end) ∙ agrees.same s.next in
     (old.0, head_first image z s line t ts ls old.0 there.0 p q there.1 same (line_good s line f) old.1)
 
 -- lines without a fault read on

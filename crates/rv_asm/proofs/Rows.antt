@@ -129,6 +129,6 @@ pub head_there : (s : Said) (line t : List ℕ) (ts : List (List ℕ)) → is_bo
     → (m : ℕ) × (head_number s.next (t ∷ ts) ≡ Some m)
 head_there s line t ts b is e =
     let none = none_before (where_so (not (are_good_bytes (without_comment line) && is_head s.next (tokens_of line))) BadHead) _
-        (sym (way_false (is_body s.next) (faults_in_body s line) (faults_in_head s.next line) b) ∙ e) in
+    (sym (way_false (is_body s.next) (faults_in_body s line) (faults_in_head s.next line) b) ∙ e) in
     let holds = second (are_good_bytes (without_comment line)) (is_head s.next (tokens_of line)) (not_false _ (where_none _ BadHead none)) in
     some_is (head_number s.next (t ∷ ts)) (sym (ap (is_head s.next) is) ∙ holds)

@@ -135,11 +135,12 @@ first_none : (text : List ℕ) (i : Image) → AsmReads text i → first_faults 
 first_none text i g =
     let codes = codes_in g.statements in
     let len : length codes ≡ length i.words =
-      sym (length_words (labels_from 0 g.statements) 0 codes) ∙ ap (λ (rs : List (Result ℕ AsmCause)). length rs) g.words
-      ∙ length-map i.words (λ (w : ℕ). there w) in
+    sym (length_words (labels_from 0 g.statements) 0 codes) ∙ ap (λ (rs : List (Result ℕ AsmCause)). length rs) g.words
+    ∙ length-map i.words (λ (w : ℕ). there w) in
     let some = g.in_range.some_word in
     let few = g.in_range.words in
-    lines_back (last_line text) i nothing_said 1 (lines_of text) g.statements g.good g.lines (record { differ = g.labels_differ; few = omega arith; some = omega arith })
+    lines_back (last_line text) i nothing_said 1 (lines_of text) g.statements g.good g.lines
+    (record { differ = g.labels_differ; few = omega arith; some = omega arith })
 
 -- nor of the second
 pub no_fault_where_reads : (text : List ℕ) (i : Image) → AsmReads text i → asm_faults text ≡ []
@@ -148,8 +149,8 @@ no_fault_where_reads text i g =
     let r = said_by_lines text i.words first in
     let s = one_head (image_of (said_in text) i.words) i r.0 g.statements (rows (lines_of text)) r.1.lines g.lines in
     let words : words_at (said_in text).labels 0 (codes_of (said_in text).words) ≡ all_there i.words =
-      ap₂ (λ (ls : Labels) (cs : List Code). words_at ls 0 cs) r.1.labels r.1.codes
-      ∙ ap (λ (ss : List Statement). words_at (labels_from 0 ss) 0 (codes_in ss)) s.statements ∙ g.words in
+    ap₂ (λ (ls : Labels) (cs : List Code). words_at ls 0 cs) r.1.labels r.1.codes
+    ∙ ap (λ (ss : List Statement). words_at (labels_from 0 ss) 0 (codes_in ss)) s.statements ∙ g.words in
     ap (λ (fs : List (ℕ × AsmCause)). faults_or fs (second_faults text)) first ∙ second_none (said_in text).labels 0 (said_in text).words i.words words
 
 -- only want of memory refuses a text without a fault

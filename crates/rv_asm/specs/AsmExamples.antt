@@ -38,7 +38,7 @@ refused = (refl, refl, refl)
 -- words of an assembler, one for each form
 forms :
     words (codes "ecall" ∷ codes "ebreak" ∷ codes "addi x0, x0, 0" ∷ codes "addi x1,x0 , 0x5 # five" ∷ codes "mul x10, x11, x20" ∷ codes "bne x5, x0, 8"
-      ∷ codes "beq x10, x0, -12" ∷ codes "jal x0, 48" ∷ codes "jal x0, -176" ∷ codes "beq x0, x0, 2048" ∷ codes "jal x0, 2048" ∷ codes "jalr x1, 248(x0)" ∷ [])
+    ∷ codes "beq x10, x0, -12" ∷ codes "jal x0, 48" ∷ codes "jal x0, -176" ∷ codes "beq x0, x0, 2048" ∷ codes "jal x0, 2048" ∷ codes "jalr x1, 248(x0)" ∷ [])
     ≡ Ok 0x00000073 ∷ Ok 0x00100073 ∷ Ok 0x00000013 ∷ Ok 0x00500093 ∷ Ok 0x03458533 ∷ Ok 0x00029463 ∷ Ok 0xfe050ae3 ∷ Ok 0x0300006f ∷ Ok 0xf51ff06f
     ∷ Ok 0x000000e3 ∷ Ok 0x0010006f ∷ Ok 0x0f8000e7 ∷ []
 forms = refl
@@ -46,7 +46,7 @@ forms = refl
 -- and for the others
 other_forms :
     words (codes "lui x5, 524288" ∷ codes "srai x7, x6, 4" ∷ codes "lw x5, 12(x10)" ∷ codes "sw x13, 0(x6)" ∷ codes "fence x0, x0, 255" ∷ codes "auipc x5, 1"
-      ∷ codes ".word -1" ∷ [])
+    ∷ codes ".word -1" ∷ [])
     ≡ Ok 0x800002b7 ∷ Ok 0x40435393 ∷ Ok 0x00c52283 ∷ Ok 0x00d32023 ∷ Ok 0x0ff0000f ∷ Ok 0x00001297 ∷ Ok 0xffffffff ∷ []
 other_forms = refl
 

@@ -54,7 +54,11 @@ fn places_of(text: &[u8]) -> Option<u32>
     ensures value { result ≡ where_word (λ n. nat_le n MAX_PLACES) (word_of text.now) }
 {
     let places = read_word(text)?;
-    if places <= MAX_PLACES { Some(places) } else { None }
+    if places <= MAX_PLACES {
+        Some(places)
+    } else {
+        None
+    }
 }
 
 // The number of a head line, in the range that it has in an image.

@@ -19,11 +19,12 @@ mod printer;
 mod ranges;
 mod second_pass;
 mod statement;
+#[cfg(test)]
+mod tests;
 mod tokens;
 mod verb;
 
 pub use asm_error::{AsmCause, AsmError};
 pub use assembler::assemble;
-
 pub use operand::Operand;
 pub use printer::print_asm;

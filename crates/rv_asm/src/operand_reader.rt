@@ -4,7 +4,8 @@ ghost use Rattle.std.specs.Option.{option_map, ok_or};
 ghost use Rattle.tam_word.specs.Lists.{any_of};
 ghost use Rattle.tam_word.specs.Numbers.{word_of};
 ghost use Rattle.rv_asm.specs.declared.asm_error.AsmCause.TheVariants.{BadLine};
-ghost use Rattle.rv_asm.specs.Statements.{register_of, signed_of, immediate_of, number_below, is_negative, is_sign, is_text, number_of, before_last, address_by, address_of};
+ghost use Rattle.rv_asm.specs.Statements.{register_of, signed_of, immediate_of, number_below, is_negative, is_sign, is_text, number_of, before_last};
+ghost use Rattle.rv_asm.specs.Statements.{address_by, address_of};
 ghost use Rattle.rv_asm.specs.StatementView.{text_of};
 
 use crate::AsmCause;
@@ -134,7 +135,11 @@ pub fn before_last(at: u8, text: &[u8]) -> Option<&[u8]>
     ensures value { option_map text_of result ≡ before_last at text.now }
 {
     let (before, behind) = cut_at(at, text)?;
-    if behind.is_empty() { Some(before) } else { None }
+    if behind.is_empty() {
+        Some(before)
+    } else {
+        None
+    }
 }
 
 // The immediate and the register of an address, by its parts.

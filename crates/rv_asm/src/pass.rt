@@ -4,14 +4,15 @@ ghost use Rattle.rv_image.specs.declared.image.TheConstants.{MAX_WORDS};
 ghost use Rattle.rv_asm.specs.Tokens.{tokens_of};
 ghost use Rattle.rv_asm.specs.Head.{head_number};
 ghost use Rattle.rv_asm.specs.Statements.{statement_of, Label, Coded};
-ghost use Rattle.rv_asm.specs.Faults.{found, with_number, with_head, with_statement, with_body, with_tokens, is_head, faults_of_statement, faults_of_tokens, faults_in_head, faults_in_body, faults_of_line, faults_at_end, nothing_said};
+ghost use Rattle.rv_asm.specs.Faults.{found, with_number, with_head, with_statement, with_body, with_tokens, is_head, faults_of_statement};
+ghost use Rattle.rv_asm.specs.Faults.{faults_of_tokens, faults_in_head, faults_in_body, faults_of_line, faults_at_end, nothing_said};
 ghost use Rattle.rv_asm.specs.StatementView.{texts, seen, code_seen};
 ghost use Rattle.rv_asm.specs.PassView.{said, labels_seen, placed_seen};
 
 use crate::AsmCause;
 use crate::form::statement_of;
-use crate::jump::Jump;
 use crate::head::{MIN_STRIDE, Next, behind, head_number, is_body};
+use crate::jump::Jump;
 use crate::statement::{Code, Statement};
 use crate::tokens::{tokens_of, without_comment};
 use indexmap::IndexMap;
@@ -141,11 +142,7 @@ fn placed_at<'t>(line: u32, code: &Code<'t>) -> Placed<'t>
 }
 
 // Appends a word.
-fn push_word<'t>(
-    words: &mut Vec<Placed<'t>>,
-    line: u32,
-    code: &Code<'t>,
-) -> Result<(), AllocError>
+fn push_word<'t>(words: &mut Vec<Placed<'t>>, line: u32, code: &Code<'t>) -> Result<(), AllocError>
     ensures ok { OnOk result (map placed_seen words.new.items ≡ map placed_seen words.old.items ++ (line, code_seen code.now) ∷ []) }
 {
     words.extend_from_slice(&[placed_at(line, code)])

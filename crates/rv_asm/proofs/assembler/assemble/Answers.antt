@@ -29,4 +29,4 @@ returns-in-Err-clause-complete c =
 pub returns-clause-complete : goal.returns-clause-complete
 returns-clause-complete c =
     λ i g. refused_by_memory c.args.text.now i c.in-Err-words_of.error g (first_of_second c.args.text.now c.in-Ok.pass c.in-Ok.ensures.faultless
-        c.in-Ok.ensures.ok c.deref.result.now c.deref.ensures.value c.in-Err-words_of.error c.in-Err-words_of.ensures.refused)
+    c.in-Ok.ensures.ok c.deref.result.now c.deref.ensures.value c.in-Err-words_of.error c.in-Err-words_of.ensures.refused)

@@ -1,30 +1,52 @@
 // Texts that were assembled by hand or by an assembler, and the first fault of others.
 use crate::{AsmError, assemble};
 use rv_image::write_image;
+use std::alloc::Global;
+use std::process::Abort;
 use std::test::Fail;
 
 const HEAD: &str = ".image 1\n.stride 32\n.params 0\n.results 0\n";
 
-fn shown(rt: &HostRuntime, text: &[u8]) -> Result<String, Fail> {
+fn shown(alloc: Global, text: &[u8]) -> Result<String, Fail> {
     if text.len() > 4_294_967_294 {
-        return Ok(format!(in rt.alloc(); "too long")?);
+        return Ok(format!(in alloc; "too long")?);
     }
-    Ok(match assemble(rt.alloc(), text) {
-        Err(AsmError::At { line, cause }) => format!(in rt.alloc(); "{} {:?}", line, cause)?,
-        Err(AsmError::NoMemory) => format!(in rt.alloc(); "no memory")?,
-        Ok(image) => format!(in rt.alloc(); "{:?}", image.words())?,
+    Ok(match assemble(alloc, text) {
+        Err(AsmError::At { line, cause }) => format!(in alloc; "{} {:?}", line, cause)?,
+        Err(AsmError::NoMemory) => format!(in alloc; "no memory")?,
+        Ok(image) => format!(in alloc; "{:?}", image.words())?,
     })
 }
 
-fn behind_head(rt: &HostRuntime, lines: &str) -> Result<String, Fail> {
-    let text = format!(in rt.alloc(); "{}{}", HEAD, lines)?;
-    shown(rt, text.as_bytes())
+fn behind_head(alloc: Global, lines: &str) -> Result<String, Fail> {
+    let text = format!(in alloc; "{}{}", HEAD, lines)?;
+    shown(alloc, text.as_bytes())
 }
 
-// The head, bytes that may not stand there, and the end.
+// Texts, each with what is shown of it.
+fn texts_show(rt: &impl Abort, alloc: Global, rows: &[(&[u8], &str)]) -> Result<(), Fail> {
+    for (text, wanted) in rows {
+        assert_eq!(rt; shown(alloc, text)?.as_str(), *wanted, "of {text:?}");
+    }
+    Ok(())
+}
+
+// Lines behind a head, each with what is shown of it.
+fn lines_show(rt: &impl Abort, alloc: Global, rows: &[(&str, &str)]) -> Result<(), Fail> {
+    for (lines, wanted) in rows {
+        assert_eq!(rt;
+            behind_head(alloc, lines)?.as_str(),
+            *wanted,
+            "of {lines:?}"
+        );
+    }
+    Ok(())
+}
+
+// Head lines and the end of a text.
 #[test]
-fn texts(rt: HostRuntime) -> Result<(), Fail> {
-    let rows: [(&[u8], &str); 19] = [
+fn heads(rt: HostRuntime) -> Result<(), Fail> {
+    let rows: [(&[u8], &str); 10] = [
         (b"", "1 Ended"),
         (b"# note\n\n", "3 Ended"),
         (b".image 1\n", "2 Ended"),
@@ -35,6 +57,14 @@ fn texts(rt: HostRuntime) -> Result<(), Fail> {
         (b".image 1\n.stride 12\n", "2 BadHead"),
         (b".image 1\n.stride 65540\n", "2 BadHead"),
         (b".image 1\n.stride 0x20\n.params 65\n", "3 BadHead"),
+    ];
+    texts_show(&rt, rt.alloc(), &rows)
+}
+
+// Bytes that may not stand in a text, and blanks.
+#[test]
+fn bytes_and_blanks(rt: HostRuntime) -> Result<(), Fail> {
+    let rows: [(&[u8], &str); 9] = [
         (
             b".image 1\n.stride 32\n.params 64\n.results -1\n",
             "4 BadHead",
@@ -54,16 +84,13 @@ fn texts(rt: HostRuntime) -> Result<(), Fail> {
             "5 BadLine",
         ),
     ];
-    for (text, wanted) in &rows {
-        assert_eq!(rt; shown(&rt, text)?.as_str(), *wanted, "of {text:?}");
-    }
-    Ok(())
+    texts_show(&rt, rt.alloc(), &rows)
 }
 
 // Words of an assembler.
 #[test]
 fn words(rt: HostRuntime) -> Result<(), Fail> {
-    let rows: [(&str, &str); 14] = [
+    let rows: [(&str, &str); 7] = [
         ("ebreak\n", "[1048691]"),
         (
             "lui x5, 524288\naddi x6, x0, -1\ndiv x7, x5, x6\nrem x8, x5, x6\ndiv x9, x5, x0\nrem x10, x5, x0\nebreak\n",
@@ -74,6 +101,14 @@ fn words(rt: HostRuntime) -> Result<(), Fail> {
         ("  addi\tx1 ,\tx0 , 2047\t# most\r\n", "[2146435219]"),
         ("beq x0, x0, -4096\n", "[2147483747]"),
         ("beq x0, x0, 4094\n", "[2113933283]"),
+    ];
+    lines_show(&rt, rt.alloc(), &rows)
+}
+
+// Further ones, spelt in other ways, and labels.
+#[test]
+fn further_words(rt: HostRuntime) -> Result<(), Fail> {
+    let rows: [(&str, &str); 7] = [
         ("jal x0, -1048576\n", "[2147483759]"),
         ("jal x0, 1048574\n", "[2147479663]"),
         ("slli x1, x1, 31\n", "[32542867]"),
@@ -88,18 +123,13 @@ fn words(rt: HostRuntime) -> Result<(), Fail> {
             "[6460515, 4292866287, 4261743843]",
         ),
     ];
-    for (lines, wanted) in &rows {
-        assert_eq!(rt; behind_head(&rt, lines)?.as_str(), *wanted, "of {lines:?}");
-    }
-    Ok(())
+    lines_show(&rt, rt.alloc(), &rows)
 }
 
-// Each cause behind the head, at its first line and at a later one.
+// Operands of no form.
 #[test]
-fn faults(rt: HostRuntime) -> Result<(), Fail> {
-    let rows: [(&str, &str); 50] = [
-        ("", "5 Ended"),
-        ("a:\n\n", "7 Ended"),
+fn bad_operands(rt: HostRuntime) -> Result<(), Fail> {
+    let rows: [(&str, &str); 12] = [
         ("addi x1, x2\n", "5 BadLine"),
         ("ecall\naddi x1, x2, 3, 4\n", "6 BadLine"),
         ("addi x32, x0, 1\n", "5 BadLine"),
@@ -112,6 +142,14 @@ fn faults(rt: HostRuntime) -> Result<(), Fail> {
         ("addi x1, x0, 1 1\n", "5 BadLine"),
         ("addi x1, x0, (1)\n", "5 BadLine"),
         ("ADDI x1, x0, 1\n", "5 BadLine"),
+    ];
+    lines_show(&rt, rt.alloc(), &rows)
+}
+
+// Addresses, labels and other lines of no form.
+#[test]
+fn bad_lines(rt: HostRuntime) -> Result<(), Fail> {
+    let rows: [(&str, &str); 13] = [
         ("lw x1, 4 (x2)\n", "5 BadLine"),
         ("lw x1, (x2)\n", "5 BadLine"),
         ("lw x1, 4(x2\n", "5 BadLine"),
@@ -124,6 +162,15 @@ fn faults(rt: HostRuntime) -> Result<(), Fail> {
         ("ecall x1\n", "5 BadLine"),
         (".word\n", "5 BadLine"),
         (".image 1\n", "5 BadLine"),
+        ("far:\njal x0, far\nfrob\n", "7 BadLine"),
+    ];
+    lines_show(&rt, rt.alloc(), &rows)
+}
+
+// Numbers out of their ranges.
+#[test]
+fn bad_numbers(rt: HostRuntime) -> Result<(), Fail> {
+    let rows: [(&str, &str); 10] = [
         ("addi x1, x0, 2048\n", "5 BadNumber"),
         ("addi x1, x0, -2049\n", "5 BadNumber"),
         ("addi x1, x0, 0xffffffff\n", "5 BadNumber"),
@@ -134,6 +181,14 @@ fn faults(rt: HostRuntime) -> Result<(), Fail> {
         ("lui x1, 1048576\n", "5 BadNumber"),
         ("lui x1, -1\n", "5 BadNumber"),
         ("fence x0, x0, 4096\n", "5 BadNumber"),
+    ];
+    lines_show(&rt, rt.alloc(), &rows)
+}
+
+// Targets and words that are no numbers.
+#[test]
+fn bad_targets(rt: HostRuntime) -> Result<(), Fail> {
+    let rows: [(&str, &str); 8] = [
         ("beq x0, x0, 4096\n", "5 BadNumber"),
         ("beq x0, x0, 3\n", "5 BadNumber"),
         ("beq x0, x0, 4294967292\n", "5 BadNumber"),
@@ -141,29 +196,35 @@ fn faults(rt: HostRuntime) -> Result<(), Fail> {
         ("jal x0, 9a\n", "5 BadNumber"),
         ("jal x0, abcdefghijklmnopqrstuvwxyz_123456\n", "5 BadNumber"),
         (".word 4294967296\n", "5 BadNumber"),
+        ("jal x0, far\naddi x1, x0, 2048\n", "6 BadNumber"),
+    ];
+    lines_show(&rt, rt.alloc(), &rows)
+}
+
+// Names twice, unknown names, and texts without a word.
+#[test]
+fn names(rt: HostRuntime) -> Result<(), Fail> {
+    let rows: [(&str, &str); 7] = [
+        ("", "5 Ended"),
+        ("a:\n\n", "7 Ended"),
         ("a:\na:\n", "6 TwiceNamed"),
         ("beq x0, x0, far\na:\na:\n", "7 TwiceNamed"),
         ("beq x1, x0, far\n", "5 UnknownName"),
         ("ecall\njal x0, x5\n", "6 UnknownName"),
         ("jal x0, far\nfar:\nbeq x0, x0, A\n", "7 UnknownName"),
-        ("jal x0, far\naddi x1, x0, 2048\n", "6 BadNumber"),
-        ("far:\njal x0, far\nfrob\n", "7 BadLine"),
     ];
-    for (lines, wanted) in &rows {
-        assert_eq!(rt; behind_head(&rt, lines)?.as_str(), *wanted, "of {lines:?}");
-    }
-    Ok(())
+    lines_show(&rt, rt.alloc(), &rows)
 }
 
-fn with_calls(rt: &HostRuntime, first: &str, calls: usize, last: &str) -> Result<String, Fail> {
-    let mut text = format!(in rt.alloc(); "{}{}", HEAD, first)?;
+fn with_calls(alloc: Global, first: &str, calls: usize, last: &str) -> Result<String, Fail> {
+    let mut text = format!(in alloc; "{}{}", HEAD, first)?;
     for _ in 0..calls {
         text.push_str("ecall\n")?;
     }
     text.push_str(last)?;
-    let mut shown = shown(rt, text.as_bytes())?;
+    let mut shown = shown(alloc, text.as_bytes())?;
     if calls > 100 && shown.len() > 100 {
-        shown = format!(in rt.alloc(); "assembled")?;
+        shown = format!(in alloc; "assembled")?;
     }
     Ok(shown)
 }
@@ -190,7 +251,10 @@ fn labels_far_away(rt: HostRuntime) -> Result<(), Fail> {
         ),
     ];
     for (first, calls, last, wanted) in &rows {
-        assert_eq!(rt; with_calls(&rt, first, *calls, last)?.as_str(), *wanted);
+        assert_eq!(rt;
+            with_calls(rt.alloc(), first, *calls, last)?.as_str(),
+            *wanted
+        );
     }
     Ok(())
 }

@@ -22,7 +22,8 @@ module _ (text : List ℕ) (pass : Pass) (first : first_faults text ≡ []) (all
       there ∙ ap (λ (qs : List PlacedAt). words_at (labels_seen pass.labels.entries) 0 (codes_of (map placed_seen qs))) is
       ∙ ap (λ (z : Said). words_at z.labels 0 (codes_of z.words)) all in
       let in_range : IsImage (image_of (said_in text) ws) = subst (λ (z : Said). IsImage (image_of z ws)) all (in_image text pass first all ps ws is len) in
-      let whole : AsmReads text (image_of (said pass) ws) = subst (λ (z : Said). AsmReads text (image_of z ws)) (sym all) (reads text ws first words in_range) in
+      let whole : AsmReads text (image_of (said pass) ws) = subst (λ (z : Said). AsmReads text (image_of z ws)) (sym all)
+      (reads text ws first words in_range) in
       subst (λ (i : Image). AsmReads text i) (sym made) whole
 
   -- and as no other

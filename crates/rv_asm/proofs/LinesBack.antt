@@ -1,5 +1,6 @@
 -- Lines that say head lines and statements have no fault.
-use Rattle.std.proofs.Common.{◌≡◌, ℕ, ◌+◌, ◌≤◌, ◌<◌, Bool, true, false, eqb, leb, not, ◌&&◌, ◌||◌, List, [], ◌∷◌, ◌++◌, length, map, Option, Some, None, is_some}
+use Rattle.std.proofs.Common.{◌≡◌, ℕ, ◌+◌, ◌≤◌, ◌<◌, Bool, true, false, eqb, leb, not, ◌&&◌, ◌||◌, List, [], ◌∷◌, ◌++◌, length, map, Option, Some}
+use Rattle.std.proofs.Common.{None, is_some}
 use Rattle.std.proofs.Common.{Result, Ok, Err, refl, sym, ap, subst, ◌∙◌, arith, true≢false, append_assoc}
 use Rattle.std.specs.Prelude.{◌==◌}
 use Rattle.std.proofs.lemmas.Bool.{leb-true, eqb-true}
@@ -111,7 +112,8 @@ statement_none s (Coded c) ss f = let few = f.few in ap (λ (t : Bool). where_so
 -- and the others stand behind it
 statement_fits : (s : Said) (n : ℕ) (st : Statement) (ss : List Statement) → Fits s (st ∷ ss) → Fits (with_statement n (Ok st) s) ss
 statement_fits s n (Label name) ss f = record {
-  differ = ap (λ (ls : Labels). all_differ same_bytes (names ls)) (append_assoc s.labels ((name, length s.words) ∷ []) (labels_from (length s.words) ss)) ∙ f.differ;
+  differ = ap (λ (ls : Labels). all_differ same_bytes (names ls)) (append_assoc s.labels ((name, length s.words) ∷ []) (labels_from
+      (length s.words) ss)) ∙ f.differ;
   few = f.few;
   some = f.some;
 }
@@ -175,7 +177,8 @@ abbrev pub NoneBehind : ℕ → Image → ℕ → List (List ℕ) → Said → T
 NoneBehind last image n ls t = (ss : List Statement) → AreLines image ss t.next (rows ls) → Fits t ss → first_pass last t n ls ≡ []
 
 -- a line that says a statement
-body_back : (last : ℕ) (image : Image) (s : Said) (n : ℕ) (line t : List ℕ) (ts : List (List ℕ)) (ls : List (List ℕ)) (ss : List Statement) → tokens_of line ≡ t ∷ ts
+body_back : (last : ℕ) (image : Image) (s : Said) (n : ℕ) (line t : List ℕ) (ts : List (List ℕ)) (ls : List (List ℕ)) (ss : List Statement)
+    → tokens_of line ≡ t ∷ ts
     → is_body s.next ≡ true → are_good_bytes line ≡ true → map statement_of ((t ∷ ts) ∷ rows ls) ≡ map Ok ss → Fits s ss
     → NoneBehind last image (n + 1) ls (with_tokens n (tokens_of line) s)
     → first_pass last s n (line ∷ ls) ≡ []
@@ -196,7 +199,8 @@ body_back last image s n line t ts ls (st ∷ ss) e b g h f more =
     stays (Coded c) = body_next s.next b
 
 -- a head line
-head_back : (last : ℕ) (image : Image) (s : Said) (n : ℕ) (line t : List ℕ) (ts : List (List ℕ)) (ls : List (List ℕ)) (ss : List Statement) → tokens_of line ≡ t ∷ ts
+head_back : (last : ℕ) (image : Image) (s : Said) (n : ℕ) (line t : List ℕ) (ts : List (List ℕ)) (ls : List (List ℕ)) (ss : List Statement)
+    → tokens_of line ≡ t ∷ ts
     → is_body s.next ≡ false → are_good_bytes line ≡ true → AreLines image ss s.next ((t ∷ ts) ∷ rows ls) → Fits s ss
     → NoneBehind last image (n + 1) ls (with_tokens n (tokens_of line) s)
     → first_pass last s n (line ∷ ls) ≡ []
@@ -210,15 +214,19 @@ head_back last image s n line t ts ls ss e b g h f more =
     (ap (λ (w : Said). first_pass last w (n + 1) ls) new ∙ rest ss row.1 (head_fits s m ss f))
 
 -- a line without tokens
-skip_back : (last : ℕ) (image : Image) (s : Said) (n : ℕ) (line : List ℕ) (ls : List (List ℕ)) (ss : List Statement) → tokens_of line ≡ [] → are_good_bytes line ≡ true
-    → AreLines image ss s.next (rows ls) → Fits s ss → NoneBehind last image (n + 1) ls (with_tokens n (tokens_of line) s) → first_pass last s n (line ∷ ls) ≡ []
+skip_back : (last : ℕ) (image : Image) (s : Said) (n : ℕ) (line : List ℕ) (ls : List (List ℕ)) (ss : List Statement) → tokens_of line ≡ []
+    → are_good_bytes line ≡ true
+    → AreLines image ss s.next (rows ls) → Fits s ss → NoneBehind last image (n + 1) ls (with_tokens n (tokens_of line) s)
+    → first_pass last s n (line ∷ ls) ≡ []
 skip_back last image s n line ls ss e g h f more =
     let new : with_tokens n (tokens_of line) s ≡ s = adds_nothing n s line e in
     let rest : NoneBehind last image (n + 1) ls s = subst (NoneBehind last image (n + 1) ls) new more in
-    both_none {Y = ℕ × AsmCause} (λ c. (n, c)) (faults_of_line s line) _ (skip_faultless s line e g) (ap (λ (w : Said). first_pass last w (n + 1) ls) new ∙ rest ss h f)
+    both_none {Y = ℕ × AsmCause} (λ c. (n, c)) (faults_of_line s line) _ (skip_faultless s line e g) (ap (λ (w : Said). first_pass last w
+    (n + 1) ls) new ∙ rest ss h f)
 
 -- one line, by its tokens
-line_back : (last : ℕ) (image : Image) (s : Said) (n : ℕ) (line : List ℕ) (ls : List (List ℕ)) (ss : List Statement) (ts : List (List ℕ)) (b : Bool) → tokens_of line ≡ ts
+line_back : (last : ℕ) (image : Image) (s : Said) (n : ℕ) (line : List ℕ) (ls : List (List ℕ)) (ss : List Statement) (ts : List (List ℕ))
+    (b : Bool) → tokens_of line ≡ ts
     → is_body s.next ≡ b → are_good_bytes line ≡ true → AreLines image ss s.next (rows (line ∷ ls)) → Fits s ss
     → NoneBehind last image (n + 1) ls (with_tokens n (tokens_of line) s) → first_pass last s n (line ∷ ls) ≡ []
 line_back last image s n line ls ss [] b e q g h f more =

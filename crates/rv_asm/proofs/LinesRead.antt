@@ -1,5 +1,6 @@
 -- Lines without a fault say the head lines and the statements of what they add.
-use Rattle.std.proofs.Common.{◌≡◌, ℕ, ◌+◌, Bool, true, false, List, [], ◌∷◌, ◌++◌, length, map, Option, Some, None, is_some, refl, sym, ap, ap₂, subst, ◌∙◌, true≢false}
+use Rattle.std.proofs.Common.{◌≡◌, ℕ, ◌+◌, Bool, true, false, List, [], ◌∷◌, ◌++◌, length, map, Option, Some, None, is_some, refl, sym, ap, ap₂}
+use Rattle.std.proofs.Common.{subst, ◌∙◌, true≢false}
 use Rattle.std.proofs.Common.{Result, Ok, Err, append_assoc}
 use Rattle.std.proofs.lemmas.List.{append-nil, map-append, length-append}
 use Rattle.tam_word.specs.Lists.{all_of, any_of, all_differ, same_bytes, where_so}
@@ -12,7 +13,8 @@ use Rattle.rv_asm.specs.declared.head.Next.TheVariants as next
 use Rattle.rv_asm.specs.Head.{head_number, behind, is_body}
 use Rattle.rv_asm.specs.Tokens.{tokens_of}
 use Rattle.rv_asm.specs.Statements.{Code, Statement, Label, Coded, statement_of}
-use Rattle.rv_asm.specs.Faults.{Said, Labels, Placed, found, with_number, with_head, with_statement, with_tokens, said_from, faults_of_statement, faults_of_line}
+use Rattle.rv_asm.specs.Faults.{Said, Labels, Placed, found, with_number, with_head, with_statement, with_tokens, said_from, faults_of_statement}
+use Rattle.rv_asm.specs.Faults.{faults_of_line}
 use Rattle.rv_asm.specs.Faults.{faults_at_end, first_pass}
 use Rattle.rv_asm.specs.Reading.{labels_from, codes_in, number_in, AreLines}
 use Rattle.rv_asm.specs.Sound.{codes_of}

@@ -136,7 +136,8 @@ line_keeps k s n ts l = go (is_body s.next) refl
     go : (b : Bool) → is_body s.next ≡ b → Keeps k s (with_tokens n ts s)
     go true p = subst (Keeps k s) (sym (way_true (is_body s.next) (with_body n ts s) (with_head (head_number s.next ts) s) p)) (body_keeps k s n ts l)
     go false p =
-        subst (Keeps k s) (sym (way_false (is_body s.next) (with_body n ts s) (with_head (head_number s.next ts) s) p)) (head_keeps k s (head_number s.next ts) l)
+        subst (Keeps k s) (sym (way_false (is_body s.next) (with_body n ts s) (with_head (head_number s.next ts) s) p)) (head_keeps k s
+        (head_number s.next ts) l)
 
 -- lines
 pub lines_keep : (k : Next) (s : Said) (n : ℕ) (ls : List (List ℕ)) → is_later k s.next ≡ true → said_number k (said_from s n ls) ≡ said_number k s

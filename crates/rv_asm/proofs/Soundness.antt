@@ -15,7 +15,8 @@ use Rattle.rv_asm.specs.declared.head.Next.TheVariants as next
 use Rattle.rv_asm.specs.Head.{head_number, head_name, head_value, is_body}
 use Rattle.rv_asm.specs.Statements.{Code, Statement, Label, Coded, statement_of, where_word}
 use Rattle.rv_asm.specs.Tokens.{tokens_of}
-use Rattle.rv_asm.specs.Faults.{Said, with_number, with_head, with_statement, with_body, with_tokens, faults_of_statement, faults_of_tokens, faults_in_body, faults_of_line}
+use Rattle.rv_asm.specs.Faults.{Said, with_number, with_head, with_statement, with_body, with_tokens, faults_of_statement, faults_of_tokens}
+use Rattle.rv_asm.specs.Faults.{faults_in_body, faults_of_line}
 use Rattle.rv_asm.specs.Sound.{IsSound}
 
 -- ---- lists of faults

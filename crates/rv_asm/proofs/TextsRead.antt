@@ -139,7 +139,8 @@ first_none text i g =
     ∙ length-map i.words (λ (w : ℕ). there w) in
     let some = g.in_range.some_word in
     let few = g.in_range.words in
-    lines_back (last_line text) i nothing_said 1 (lines_of text) g.statements g.good g.lines (record { differ = g.labels_differ; few = omega arith; some = omega arith })
+    lines_back (last_line text) i nothing_said 1 (lines_of text) g.statements g.good g.lines
+    (record { differ = g.labels_differ; few = omega arith; some = omega arith })
 
 -- nor of the second
 pub no_fault_where_reads : (text : List ℕ) (i : Image) → AsmReads text i → asm_faults text ≡ []

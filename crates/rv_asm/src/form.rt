@@ -2,7 +2,8 @@
 ghost use Rattle.std.specs.Prelude.{◌≡◌, ◌∷◌, []};
 ghost use Rattle.tam_text.specs.Names.{is_name};
 ghost use Rattle.rv_asm.specs.InstNames.{verb_called};
-ghost use Rattle.rv_asm.specs.Statements.{going, with_none, with_one, with_second, with_third, with_two, with_three, is_comma_token, said_by, label_of, label_in, statement_of};
+ghost use Rattle.rv_asm.specs.Statements.{going, with_none, with_one, with_second, with_third, with_two, with_three, is_comma_token, said_by};
+ghost use Rattle.rv_asm.specs.Statements.{label_of, label_in, statement_of};
 ghost use Rattle.rv_asm.specs.Statements.{said_if};
 ghost use Rattle.std.specs.Option.{option_map};
 ghost use Rattle.rv_inst.specs.Instructions.{encoded};

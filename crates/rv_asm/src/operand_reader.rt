@@ -4,7 +4,8 @@ ghost use Rattle.std.specs.Option.{option_map, ok_or};
 ghost use Rattle.tam_word.specs.Lists.{any_of};
 ghost use Rattle.tam_word.specs.Numbers.{word_of};
 ghost use Rattle.rv_asm.specs.declared.asm_error.AsmCause.TheVariants.{BadLine};
-ghost use Rattle.rv_asm.specs.Statements.{register_of, signed_of, immediate_of, number_below, is_negative, is_sign, is_text, number_of, before_last, address_by, address_of};
+ghost use Rattle.rv_asm.specs.Statements.{register_of, signed_of, immediate_of, number_below, is_negative, is_sign, is_text, number_of, before_last};
+ghost use Rattle.rv_asm.specs.Statements.{address_by, address_of};
 ghost use Rattle.rv_asm.specs.StatementView.{text_of};
 
 use crate::AsmCause;

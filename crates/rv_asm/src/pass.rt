@@ -4,7 +4,8 @@ ghost use Rattle.rv_image.specs.declared.image.TheConstants.{MAX_WORDS};
 ghost use Rattle.rv_asm.specs.Tokens.{tokens_of};
 ghost use Rattle.rv_asm.specs.Head.{head_number};
 ghost use Rattle.rv_asm.specs.Statements.{statement_of, Label, Coded};
-ghost use Rattle.rv_asm.specs.Faults.{found, with_number, with_head, with_statement, with_body, with_tokens, is_head, faults_of_statement, faults_of_tokens, faults_in_head, faults_in_body, faults_of_line, faults_at_end, nothing_said};
+ghost use Rattle.rv_asm.specs.Faults.{found, with_number, with_head, with_statement, with_body, with_tokens, is_head, faults_of_statement};
+ghost use Rattle.rv_asm.specs.Faults.{faults_of_tokens, faults_in_head, faults_in_body, faults_of_line, faults_at_end, nothing_said};
 ghost use Rattle.rv_asm.specs.StatementView.{texts, seen, code_seen};
 ghost use Rattle.rv_asm.specs.PassView.{said, labels_seen, placed_seen};
 

@@ -1,5 +1,5 @@
 -- The faults of the lines that are left are those of the text, and what they add makes what the text says.
-use Rattle.std.proofs.Common.{◌≡◌, ◌+◌, ◌≤◌, [], length}
+use Rattle.std.proofs.Common.{◌≡◌, ◌+◌, ◌≤◌, length}
 use Rattle.tam_text.specs.Lines.{lines_of}
 use Rattle.rv_asm.specs.Faults.{last_line, first_pass, first_faults, said_from, said_in}
 use Rattle.rv_asm.specs.PassView.{said}

@@ -1,5 +1,5 @@
 -- A look-up finds the label.
-use Rattle.std.proofs.Common.{sym, ◌∙◌}
+use Rattle.std.proofs.Common.{◌∙◌}
 use Rattle.rv_asm.proofs.Labelled.{found-lookup}
 use Rattle.rv_asm.proofs.pass.find.Goals as goal
 

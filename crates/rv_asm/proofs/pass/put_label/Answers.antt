@@ -1,5 +1,5 @@
 -- A new label goes last.
-use Rattle.std.proofs.Common.{◌≡◌, ℕ, ◌++◌, ◌∷◌, [], List, length, map, sym, ap, ◌∙◌, rules}
+use Rattle.std.proofs.Common.{◌≡◌, ℕ, ◌++◌, ◌∷◌, [], length, map, sym, ap, ◌∙◌, rules}
 use Rattle.std.proofs.lemmas.List.{length-map}
 use Rattle.rv_asm.specs.Faults.{Labels}
 use Rattle.rv_asm.specs.PassView.{labels_seen, placed_seen, said}

@@ -8,5 +8,6 @@ use Rattle.rv_asm.proofs.tokens.pieces_of.Goals as goal
 pub returns : goal.returns
 returns c = record {
   value = map_from_collect _ c.collect.ensures.ran
-      (YieldsList-from_slice_split _ is_comma c.args.line.now c.split.ensures.rest c.split.ensures.done c.split.ensures.closure (λ x r q k. search (rules, tests)));
+      (YieldsList-from_slice_split _ is_comma c.args.line.now c.split.ensures.rest c.split.ensures.done c.split.ensures.closure (λ x r q k. search
+      (rules, tests)));
 }

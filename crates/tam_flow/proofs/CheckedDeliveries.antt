@@ -1,5 +1,6 @@
 -- The delivery of a message by the checker of journals.
-use Rattle.std.proofs.Common.{◌≡◌, ◌∙◌, ℕ, true, false, List, [], ◌∷◌, ◌++◌, Option, Some, None, is_none, is_some, reverse, slice_get, refl, sym, ap, true≢false}
+use Rattle.std.proofs.Common.{◌≡◌, ◌∙◌, ℕ, true, false, List, [], ◌∷◌, ◌++◌, Option, Some, None, is_none, is_some}
+use Rattle.std.proofs.Common.{reverse, slice_get, refl, sym, ap, true≢false}
 use Rattle.std.proofs.lemmas.List.{reverse-append}
 use Rattle.tam_msgs.specs.declared.message.Message.{Message}
 use Rattle.tam_flow.specs.Worlds.{Delivery, Went, Printed, Faulted, delivered}

@@ -1,5 +1,6 @@
 -- A list of events, checked one by one.
-use Rattle.std.proofs.Common.{◌≡◌, ◌∙◌, ℕ, ◌+◌, ◌^◌, ◌<◌, ◌≤◌, suc, Bool, true, false, List, ◌∷◌, length, drop, get_or, refl, sym, subst, ap, add-one, drop-cons, arith}
+use Rattle.std.proofs.Common.{◌≡◌, ◌∙◌, ℕ, ◌+◌, ◌^◌, ◌<◌, ◌≤◌, suc, Bool, true, false, List, ◌∷◌, length}
+use Rattle.std.proofs.Common.{drop, get_or, refl, sym, subst, ap, add-one, drop-cons, arith}
 use Rattle.tam_graph.specs.Graphs.{Graph}
 use Rattle.tam_graph.specs.Accepted.{IsAccepted}
 use Rattle.tam_split.specs.GraphPartitions.{Partitions, are_valid}

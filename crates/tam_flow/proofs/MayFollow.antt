@@ -51,5 +51,5 @@ module _ (g : Graph) (all : Partitions) (s : State) where
     -- nor twice
     pub no-delivery_twice : has s.arrived m ≡ true → may_follow g all s (Deliver m) ≡ false
     no-delivery_twice twice =
-        not-so (may_follow g all s (Deliver m)) (λ h. true≢false (sym twice ∙ not-true (has s.arrived m) (and-right (nat_lt m (length s.sent)) (not (has s.arrived m))
-        (and-right (is_none s.fault) (may_arrive s m) h))))
+        not-so (may_follow g all s (Deliver m)) (λ h. true≢false (sym twice ∙ not-true (has s.arrived m)
+        (and-right (nat_lt m (length s.sent)) (not (has s.arrived m)) (and-right (is_none s.fault) (may_arrive s m) h))))

@@ -30,7 +30,7 @@ pub enum JournalEvent {
 }
 
 /// Whether the list is a legal journal of the graph over these partitions, one for each block of each code: each event may come in the state
-/// that the events before it leave.
+/// that the events before it leave. More cells than 4294967295 are answered as want of memory.
 pub fn check_journal(
     alloc: Global,
     g: &Accepted,

@@ -7,7 +7,8 @@ use Rattle.tam_flow.specs.Journals.{has_run}
 use Rattle.tam_flow.specs.Machines.{state_of}
 use Rattle.tam_flow.proofs.AnyOf.{all-next, asked-fails, asked-passes, not-asked}
 use Rattle.tam_flow.proofs.class_run.those_before_ran.Goals as goal
-use Rattle.tam_flow.proofs.class_run.those_before_ran.Goals.{else-is_directly_before-via-then-is_directly_before+else-not-has_run, else-is_directly_before-via-else-is_directly_before}
+use Rattle.tam_flow.proofs.class_run.those_before_ran.Goals.{else-is_directly_before-via-then-is_directly_before+else-not-has_run}
+use Rattle.tam_flow.proofs.class_run.those_before_ran.Goals.{else-is_directly_before-via-else-is_directly_before}
 
 pub returns-then-not-has_run : goal.returns-then-not-has_run
 returns-then-not-has_run c =

@@ -37,6 +37,7 @@ make_event-requires c =
     let kept = c.loop-event.invariant.kept in
     record {
       blocks = blocks-stand c.args.g.now c.args.args.now s kept.sound;
-      activations = omega (arith, length-map c.loop-event.machine.activations.items activation_of, kept.few_activations, c.loop-event-test.true, c.requires.few);
+      activations =
+          omega (arith, length-map c.loop-event.machine.activations.items activation_of, kept.few_activations, c.loop-event-test.true, c.requires.few);
       arrays = omega (arith, kept.few_arrays, c.loop-event-test.true, c.requires.few);
     }

@@ -6,13 +6,15 @@ use Rattle.tam_flow.proofs.AnyOf.{any_of-reverse}
 use Rattle.tam_flow.proofs.MayFollow.{follows-delivery, no-delivery_more, no-delivery_sent, no-delivery_twice}
 use Rattle.tam_flow.proofs.CheckedDeliveries.{is-refused, not-refused, arrived-more, delivered-is}
 use Rattle.tam_flow.proofs.journal.deliver_message.Goals as goal
-use Rattle.tam_flow.proofs.journal.deliver_message.Goals.{then-is_some-via-then-is_some, then-is_some-via-else-is_some+then-number-len, then-is_some-via-else-is_some+else-number-len+then-has}
+use Rattle.tam_flow.proofs.journal.deliver_message.Goals.{then-is_some-via-then-is_some}
+use Rattle.tam_flow.proofs.journal.deliver_message.Goals.{then-is_some-via-else-is_some+then-number-len, then-is_some-via-else-is_some+else-number-len+then-has}
 
 pub returns-then-is_some : goal.returns-then-is_some
 returns-then-is_some c = λ g all.
     let s = state_of c.args.machine.now in
     elim c.then-is_some.branch [
-      | then-is_some-via-then-is_some w ↦ no-delivery_more g all s c.args.number (is-refused c.args.machine.now.refusal (sym c.is_some.ensures ∙ w.if-is_some.true))
+      | then-is_some-via-then-is_some w ↦ no-delivery_more g all s c.args.number
+          (is-refused c.args.machine.now.refusal (sym c.is_some.ensures ∙ w.if-is_some.true))
       | then-is_some-via-else-is_some+then-number-len w ↦ no-delivery_sent g all s c.args.number (omega (
         arith,
         w.len.ensures,
@@ -34,8 +36,9 @@ returns c = λ g all.
     c.is_err.ensures.negation ∙ ap not c.if-is_err.false in rw went at c.push.ensures.items in
     let more : reverse c.push.new.self.items ≡ c.args.number ∷ s.arrived =
     ap (λ (l : List ℕ). reverse l) pushed ∙ arrived-more c.args.machine.now.arrived.items c.args.number in
-    let found : slice_get s.sent c.args.number ≡ Some c.index-message.result.now = slice_get_read c.args.machine.now.sent.items (length c.args.machine.now.sent.items) c.args.number
-    c.index-message.result.now refl sent c.index-message.ensures in (
+    let found : slice_get s.sent c.args.number ≡ Some c.index-message.result.now =
+    slice_get_read c.args.machine.now.sent.items (length c.args.machine.now.sent.items) c.args.number c.index-message.result.now refl sent c.index-message.ensures in (
       follows-delivery g all s c.args.number whole sent new,
-      delivered-is s (state_of c.deliver.new.machine) c.args.number c.index-message.result.now (reverse c.push.new.self.items) found more c.in_ok-deliver.ensures,
+      delivered-is s (state_of c.deliver.new.machine) c.args.number c.index-message.result.now (reverse c.push.new.self.items) found more
+          c.in_ok-deliver.ensures,
     )

@@ -3,7 +3,8 @@ use Rattle.tam_split.specs.GraphPartitions.{firing_order}
 use Rattle.tam_flow.specs.Machines.{state_of}
 use Rattle.tam_flow.proofs.CheckedRuns.{inlet-missing, class-missing, class-ran, run-noted}
 use Rattle.tam_flow.proofs.journal.run_if_ready.Goals as goal
-use Rattle.tam_flow.proofs.journal.run_if_ready.Goals.{then-not-inlets_have_words-via-then-not-inlets_have_words, then-not-inlets_have_words-via-else-not-inlets_have_words+then-not-those_before_ran}
+use Rattle.tam_flow.proofs.journal.run_if_ready.Goals.{then-not-inlets_have_words-via-then-not-inlets_have_words}
+use Rattle.tam_flow.proofs.journal.run_if_ready.Goals.{then-not-inlets_have_words-via-else-not-inlets_have_words+then-not-those_before_ran}
 
 pub returns-then-not-inlets_have_words : goal.returns-then-not-inlets_have_words
 returns-then-not-inlets_have_words c = λ all are.
@@ -11,7 +12,8 @@ returns-then-not-inlets_have_words c = λ all are.
     let r = c.args.run in
     elim c.then-not-inlets_have_words.branch [
       | then-not-inlets_have_words-via-then-not-inlets_have_words w ↦ inlet-missing c.args.graph.now all s r.act r.block r.class c.args.parts.now
-          c.args.block.now c.class-class.result.now are c.requires.block c.class-class.ensures.value (sym c.inlets_have_words.ensures ∙ w.if-not-inlets_have_words.true)
+          c.args.block.now c.class-class.result.now are c.requires.block c.class-class.ensures.value
+          (sym c.inlets_have_words.ensures ∙ w.if-not-inlets_have_words.true)
       | then-not-inlets_have_words-via-else-not-inlets_have_words+then-not-those_before_ran w ↦ class-missing c.args.graph.now all s r.act r.block r.class
           c.args.parts.now c.args.block.now c.class-class.result.now are c.requires.block c.class-class.ensures.value
           (sym w.those_before_ran.ensures ∙ w.if-not-those_before_ran.true)
@@ -22,7 +24,8 @@ returns c = λ all are.
     let s = state_of c.args.machine.now in
     let t = state_of c.fire_places.new.machine in
     let r = c.args.run in
-    let order_is : c.in_ok-order.order.items ≡ firing_order c.args.block.now.edges c.class-class.result.now = rw c.edges.ensures.value at c.in_ok-order.ensures in
+    let order_is : c.in_ok-order.order.items ≡ firing_order c.args.block.now.edges c.class-class.result.now =
+    rw c.edges.ensures.value at c.in_ok-order.ensures in
     let pushed : c.push.new.self.items ≡ c.fire_places.new.machine.ran.items ++ r ∷ [] = let went =
     c.is_err.ensures.negation ∙ ap not c.if-is_err.false in rw went at c.push.ensures.items in
     class-ran c.args.graph.now all s r.act r.block r.class c.args.parts.now c.args.block.now c.class-class.result.now are c.requires.block

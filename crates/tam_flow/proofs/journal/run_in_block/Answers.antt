@@ -2,7 +2,9 @@ use Rattle.std.proofs.Common.{◌∙◌, sym, arith}
 use Rattle.tam_flow.specs.Machines.{state_of}
 use Rattle.tam_flow.proofs.CheckedRuns.{no-class, ran-before, not-entered}
 use Rattle.tam_flow.proofs.journal.run_in_block.Goals as goal
-use Rattle.tam_flow.proofs.journal.run_in_block.Goals.{then-run-classes-via-then-run-classes, then-run-classes-via-else-run-classes+then-has_run, then-run-classes-via-else-run-classes+else-has_run+then-not-has_entered}
+use Rattle.tam_flow.proofs.journal.run_in_block.Goals.{then-run-classes-via-then-run-classes}
+use Rattle.tam_flow.proofs.journal.run_in_block.Goals.{then-run-classes-via-else-run-classes+then-has_run}
+use Rattle.tam_flow.proofs.journal.run_in_block.Goals.{then-run-classes-via-else-run-classes+else-has_run+then-not-has_entered}
 
 pub returns-then-run-classes : goal.returns-then-run-classes
 returns-then-run-classes c = λ all are.

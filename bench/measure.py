@@ -2,7 +2,7 @@
 
 usage: measure.py PROGRAM [PART ..]
 
-The parts are `runs`, `words`, `texts`, `hostile` and `blocks`; without one all are measured. Each line of output is a row
+The parts are `runs`, `words`, `texts`, `hostile`, `blocks` and `assembly`; without one all are measured. Each line of output is a row
 of RESULTS.md. A time is the least of several runs, memory the least address space within which the run still has its
 status and output.
 """
@@ -112,7 +112,12 @@ def measure_blocks(program):
             measure(program, "parts", f"{kind}, {vertices} vertices", texts.block(kind, vertices), [])
 
 
-PARTS = {"runs": measure_runs, "words": measure_words, "texts": measure_texts, "hostile": measure_hostile, "blocks": measure_blocks}
+def measure_assembly(program):
+    for size in (1 << 20, 1 << 21, 1 << 22):
+        measure(program, "assemble", f"{size >> 20} MB", texts.assembly(size), [])
+
+
+PARTS = {"assembly": measure_assembly, "runs": measure_runs, "words": measure_words, "texts": measure_texts, "hostile": measure_hostile, "blocks": measure_blocks}
 
 
 def main():

@@ -107,3 +107,26 @@ def block(kind, vertices):
 
 
 BLOCKS = ["a chain", "params and results, each its own", "sums of neighbours", "random"]
+
+
+def assembly(size):
+    """An assembly text of about that many bytes: instructions of every form, and a label for every eighth."""
+    lines = [".image 1", ".stride 32", ".params 0", ".results 0"]
+    used = sum(len(line) + 1 for line in lines)
+    number = 0
+    while used < size - 200:
+        group = [
+            f"l{number}:",
+            "addi x5, x6, -2048",
+            "mul x7, x5, x6",
+            "lw x28, 16(x8)",
+            "sw x28, 2044(x8)",
+            f"bne x5, x0, l{number}",
+            "lui x31, 1048575",
+            "srai x5, x5, 31",
+            f".word {number}",
+        ]
+        lines += group
+        used += sum(len(line) + 1 for line in group)
+        number += 1
+    return "\n".join(lines) + "\n"

@@ -2,8 +2,8 @@
 
 usage: measure.py PROGRAM [PART ..]
 
-The parts are `runs`, `words`, `texts`, `hostile`, `blocks` and `assembly`; without one all are measured. Each line of output is a row
-of RESULTS.md. A time is the least of several runs, memory the least address space within which the run still has its
+The parts of the program `tam` are `runs`, `words`, `texts`, `hostile`, `blocks` and `assembly`; without one all of these are measured. The part
+`machine` is measured on the program `rv_loop`. Each line of output is a row of RESULTS.md. A time is the least of several runs, memory the least address space within which the run still has its
 status and output.
 """
 
@@ -117,12 +117,34 @@ def measure_assembly(program):
         measure(program, "assemble", f"{size >> 20} MB", texts.assembly(size), [])
 
 
-PARTS = {"assembly": measure_assembly, "runs": measure_runs, "words": measure_words, "texts": measure_texts, "hostile": measure_hostile, "blocks": measure_blocks}
+def measure_machine(program):
+    """Rows of the machine's loops, with steps in the place of events."""
+    for loop in ("count", "copy"):
+        for steps in (1 << 24, 1 << 25, 1 << 26):
+            words = [loop, str(steps)]
+            runs = runs_of(program, words)
+            end = runs[0][1]
+            memory = least_memory(program, words, end)
+            seconds = min(run[0] for run in runs)
+            print(f"| rv_loop, {loop} | | {end[0]} | {steps} | {seconds * 1000:.1f} | {steps / seconds:.0f} | {memory} |", flush=True)
+
+
+PARTS = {
+    "assembly": measure_assembly,
+    "runs": measure_runs,
+    "words": measure_words,
+    "texts": measure_texts,
+    "hostile": measure_hostile,
+    "blocks": measure_blocks,
+    "machine": measure_machine,
+}
+
+OF_TAM = [part for part in PARTS if part != "machine"]
 
 
 def main():
     program = os.path.abspath(sys.argv[1])
-    for name in sys.argv[2:] or PARTS:
+    for name in sys.argv[2:] or OF_TAM:
         PARTS[name](program)
 
 

@@ -1,5 +1,5 @@
 -- Names that differ, and what is found among labels.
-use Rattle.std.proofs.Common.{◌≡◌, ℕ, Bool, true, false, List, [], ◌∷◌, ◌++◌, map, Option, Some, None, is_some, refl, sym, ap, subst, ◌∙◌, true≢false}
+use Rattle.std.proofs.Common.{◌≡◌, ℕ, Bool, true, false, List, [], ◌∷◌, ◌++◌, map, Option, Some, is_some, refl, sym, subst, ◌∙◌, true≢false}
 use Rattle.tam_word.specs.Lists.{any_of, all_differ, same_bytes}
 use Rattle.tam_text.proofs.SameBytes.{same_equal, same_self}
 use Rattle.rv_asm.specs.Faults.{Labels, found}

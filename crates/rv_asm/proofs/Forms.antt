@@ -1,5 +1,5 @@
 -- Numbers of tokens behind a verb that no form has.
-use Rattle.std.proofs.Common.{◌≡◌, ℕ, ◌≤◌, List, [], ◌∷◌, length, Result, Err, None, Bor, refl, arith}
+use Rattle.std.proofs.Common.{◌≡◌, ℕ, ◌≤◌, List, [], ◌∷◌, length, Err, None, Bor, refl, arith}
 use Rattle.rv_asm.specs.declared.asm_error.AsmCause.TheVariants.{BadLine}
 use Rattle.rv_asm.specs.declared.verb.Verb.{Verb}
 use Rattle.rv_asm.specs.Statements.{said_by, label_in}

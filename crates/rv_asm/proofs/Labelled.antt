@@ -1,5 +1,5 @@
 -- A map of labels finds what its entries have.
-use Rattle.std.proofs.Common.{◌≡◌, ℕ, Bool, true, false, cond, List, [], ◌∷◌, ◌++◌, length, map, Option, Some, None, refl, sym, ap, ◌∙◌}
+use Rattle.std.proofs.Common.{◌≡◌, ℕ, Bool, true, false, cond, List, [], ◌∷◌, ◌++◌, Some, None, refl, sym, ap, ◌∙◌}
 use Rattle.std.proofs.Common.{Bor}
 use Rattle.indexmap.specs.IndexMap.{insert_entry}
 use Rattle.indexmap.proofs.MapLemmas.{insert_entry-absent, absent_from_lookup}
@@ -8,7 +8,7 @@ use Rattle.std.specs.Str.{bytes_eq}
 use Rattle.std.specs.Map.{lookup}
 use Rattle.tam_word.specs.Lists.{same_bytes}
 use Rattle.tam_text.proofs.SameBytes.{same_bytes_is}
-use Rattle.rv_asm.specs.Faults.{Labels, found}
+use Rattle.rv_asm.specs.Faults.{found}
 use Rattle.rv_asm.specs.PassView.{labels_seen}
 
 -- one choice is the other

@@ -12,3 +12,13 @@ pub mod LinesRead
 pub mod LinesBack
 pub mod TextsRead
 pub mod ImagesRead
+pub mod Worded
+pub mod PlainTexts
+pub mod OperandsSaid
+pub mod VerbsCalled
+pub mod Spoken
+pub mod TokenBytes
+pub mod LinesCut
+pub mod PrintedLines
+pub mod PrintedReads
+pub mod PrintedLength

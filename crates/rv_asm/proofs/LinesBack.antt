@@ -1,11 +1,11 @@
 -- Lines that say head lines and statements have no fault.
-use Rattle.std.proofs.Common.{◌≡◌, ℕ, ◌+◌, ◌≤◌, ◌<◌, Bool, true, false, eqb, leb, not, ◌&&◌, ◌||◌, List, [], ◌∷◌, ◌++◌, length, map, Option, Some}
-use Rattle.std.proofs.Common.{None, is_some}
-use Rattle.std.proofs.Common.{Result, Ok, Err, refl, sym, ap, subst, ◌∙◌, arith, true≢false, append_assoc}
+use Rattle.std.proofs.Common.{◌≡◌, ℕ, ◌+◌, ◌≤◌, ◌<◌, Bool, true, false, leb, not, ◌&&◌, ◌||◌, List, [], ◌∷◌, ◌++◌, length, map, Some}
+use Rattle.std.proofs.Common.{is_some}
+use Rattle.std.proofs.Common.{Ok, refl, sym, ap, subst, ◌∙◌, arith, true≢false, append_assoc}
 use Rattle.std.specs.Prelude.{◌==◌}
 use Rattle.std.proofs.lemmas.Bool.{leb-true, eqb-true}
 use Rattle.std.proofs.lemmas.List.{map-append, length-append}
-use Rattle.tam_word.specs.Lists.{all_of, any_of, all_differ, same_bytes, where_so}
+use Rattle.tam_word.specs.Lists.{all_of, all_differ, same_bytes, where_so}
 use Rattle.tam_text.specs.Lines.{without_comment, is_at_end, is_good_byte, are_good_bytes, is_some_of}
 use Rattle.rv_inst.specs.Images.{Image}
 use Rattle.rv_image.specs.declared.image.TheConstants.{MAX_WORDS}
@@ -15,8 +15,8 @@ use Rattle.rv_asm.specs.declared.head.Next.{Next}
 use Rattle.rv_asm.specs.declared.head.Next.TheVariants as next
 use Rattle.rv_asm.specs.Head.{head_number, behind, is_body}
 use Rattle.rv_asm.specs.Tokens.{tokens_of}
-use Rattle.rv_asm.specs.Statements.{Code, Statement, Label, Coded, statement_of}
-use Rattle.rv_asm.specs.Faults.{Said, Labels, Placed, found, with_number, with_head, with_statement, with_tokens, faults_of_statement, faults_of_tokens}
+use Rattle.rv_asm.specs.Statements.{Statement, Label, Coded, statement_of}
+use Rattle.rv_asm.specs.Faults.{Said, Labels, Placed, with_number, with_head, with_statement, with_tokens, faults_of_statement, faults_of_tokens}
 use Rattle.rv_asm.specs.Faults.{is_head, faults_in_head, faults_in_body, faults_of_line, faults_at_end, first_pass}
 use Rattle.rv_asm.specs.Reading.{labels_from, codes_in, number_in, AreLines}
 use Rattle.rv_asm.proofs.Differ.{names, found-among, new_within}

@@ -1,9 +1,9 @@
 -- Lines without a fault say the head lines and the statements of what they add.
-use Rattle.std.proofs.Common.{◌≡◌, ℕ, ◌+◌, Bool, true, false, List, [], ◌∷◌, ◌++◌, length, map, Option, Some, None, is_some, refl, sym, ap, ap₂}
+use Rattle.std.proofs.Common.{◌≡◌, ℕ, ◌+◌, Bool, true, false, List, [], ◌∷◌, ◌++◌, length, Some, is_some, refl, sym, ap, ap₂}
 use Rattle.std.proofs.Common.{subst, ◌∙◌, true≢false}
 use Rattle.std.proofs.Common.{Result, Ok, Err, append_assoc}
 use Rattle.std.proofs.lemmas.List.{append-nil, map-append, length-append}
-use Rattle.tam_word.specs.Lists.{all_of, any_of, all_differ, same_bytes, where_so}
+use Rattle.tam_word.specs.Lists.{all_of, all_differ, same_bytes}
 use Rattle.tam_text.specs.Lines.{are_good_bytes}
 use Rattle.rv_inst.specs.Images.{Image}
 use Rattle.rv_asm.specs.declared.asm_error.AsmCause.{AsmCause}
@@ -21,7 +21,7 @@ use Rattle.rv_asm.specs.Sound.{codes_of}
 use Rattle.rv_asm.proofs.Soundness.{none_before, none_behind, where_none}
 use Rattle.rv_asm.proofs.Assembled.{none_mapped, at_end}
 use Rattle.rv_asm.proofs.Differ.{names, found-among, differ_with}
-use Rattle.rv_asm.proofs.Numbers.{said_number, is_later, behind_later, lines_keep, number_put}
+use Rattle.rv_asm.proofs.Numbers.{said_number, behind_later, lines_keep, number_put}
 use Rattle.rv_asm.proofs.Rows.{rows, rows_skip, rows_take, body_next, adds_nothing, adds_statement, adds_head, same_labels, same_words, line_good}
 use Rattle.rv_asm.proofs.Rows.{statement_faultless, head_there}
 

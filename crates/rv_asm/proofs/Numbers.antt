@@ -1,13 +1,12 @@
 -- The numbers of the head stay once they are put.
-use Rattle.std.proofs.Common.{◌≡◌, ℕ, ◌+◌, Bool, true, false, ltb, List, [], ◌∷◌, Option, Some, None, Result, Ok, Err, refl, sym, ap, subst, ◌∙◌, true≢false}
+use Rattle.std.proofs.Common.{◌≡◌, ℕ, ◌+◌, Bool, true, false, ltb, List, [], ◌∷◌, Option, Some, None, Result, Ok, Err, refl, sym, subst, ◌∙◌, true≢false}
 use Rattle.tam_word.specs.Lists.{same_bytes}
 use Rattle.tam_word.specs.Numbers.{some_if}
 use Rattle.std.specs.Prelude.{codes}
-use Rattle.rv_inst.specs.Images.{Image}
 use Rattle.rv_asm.specs.declared.asm_error.AsmCause.{AsmCause}
 use Rattle.rv_asm.specs.declared.head.Next.{Next}
 use Rattle.rv_asm.specs.declared.head.Next.TheVariants as next
-use Rattle.rv_asm.specs.Head.{head_number, head_value, behind, is_body}
+use Rattle.rv_asm.specs.Head.{head_number, behind, is_body}
 use Rattle.rv_asm.specs.Tokens.{tokens_of}
 use Rattle.rv_asm.specs.Statements.{Statement, Label, Coded, statement_of}
 use Rattle.rv_asm.specs.Faults.{Said, with_number, with_head, with_statement, with_body, with_tokens, said_from}

@@ -1,17 +1,17 @@
 -- What one line does to what is said, by its tokens; and the lines with tokens.
-use Rattle.std.proofs.Common.{◌≡◌, ℕ, Bool, true, false, eqb, leb, not, ◌&&◌, ◌||◌, cond, List, [], ◌∷◌, ◌++◌, map, Option, Some, None, is_some}
-use Rattle.std.proofs.Common.{Result, Ok, Err, refl, sym, ap, subst, ◌∙◌, true≢false}
+use Rattle.std.proofs.Common.{◌≡◌, ℕ, Bool, true, false, not, ◌&&◌, List, [], ◌∷◌, map, Option, Some, None, is_some}
+use Rattle.std.proofs.Common.{Result, refl, sym, ap, ◌∙◌, true≢false}
 use Rattle.std.specs.List.{filter}
 use Rattle.tam_word.specs.Lists.{where_so}
-use Rattle.tam_text.specs.Lines.{without_comment, is_good_byte, is_at_end, are_good_bytes, is_some_of}
+use Rattle.tam_text.specs.Lines.{without_comment, are_good_bytes, is_some_of}
 use Rattle.rv_asm.specs.declared.asm_error.AsmCause.{AsmCause}
 use Rattle.rv_asm.specs.declared.asm_error.AsmCause.TheVariants.{BadLine, BadHead}
 use Rattle.rv_asm.specs.declared.head.Next.{Next}
 use Rattle.rv_asm.specs.declared.head.Next.TheVariants as next
-use Rattle.rv_asm.specs.Head.{head_number, behind, is_body}
+use Rattle.rv_asm.specs.Head.{head_number, is_body}
 use Rattle.rv_asm.specs.Tokens.{tokens_of}
 use Rattle.rv_asm.specs.Statements.{Statement, statement_of}
-use Rattle.rv_asm.specs.Faults.{Said, Labels, Placed, with_number, with_head, with_statement, with_body, with_tokens}
+use Rattle.rv_asm.specs.Faults.{Said, with_number, with_head, with_statement, with_tokens}
 use Rattle.rv_asm.specs.Faults.{is_head, faults_of_statement, faults_of_tokens, faults_in_head, faults_in_body, faults_of_line}
 use Rattle.rv_asm.proofs.Soundness.{none_before, none_behind, where_none}
 

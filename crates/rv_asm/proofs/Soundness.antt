@@ -1,6 +1,6 @@
 -- What a line without a fault adds keeps the ranges of an image.
-use Rattle.std.proofs.Common.{◌≡◌, ℕ, ◌+◌, ◌≤◌, ◌<◌, Bool, true, false, leb, not, ◌&&◌, List, [], ◌∷◌, ◌++◌, length, map, take, Option, Some, None, is_some}
-use Rattle.std.proofs.Common.{Result, Ok, Err, refl, sym, ap, subst, ◌∙◌, arith, true≢false}
+use Rattle.std.proofs.Common.{◌≡◌, ℕ, Bool, true, false, leb, List, [], ◌∷◌, ◌++◌, length, take, Option, Some, None}
+use Rattle.std.proofs.Common.{Result, Ok, Err, refl, sym, ap, subst, ◌∙◌, arith}
 use Rattle.std.specs.Prelude.{option_to_list, IfNone}
 use Rattle.std.proofs.lemmas.List.{length-append}
 use Rattle.std.proofs.lemmas.Bool.{leb-true, leb-false}
@@ -13,10 +13,10 @@ use Rattle.rv_asm.specs.declared.asm_error.AsmCause.TheVariants.{TooMany}
 use Rattle.rv_asm.specs.declared.head.Next.{Next}
 use Rattle.rv_asm.specs.declared.head.Next.TheVariants as next
 use Rattle.rv_asm.specs.Head.{head_number, head_name, head_value, is_body}
-use Rattle.rv_asm.specs.Statements.{Code, Statement, Label, Coded, statement_of, where_word}
+use Rattle.rv_asm.specs.Statements.{Statement, Label, Coded, statement_of, where_word}
 use Rattle.rv_asm.specs.Tokens.{tokens_of}
 use Rattle.rv_asm.specs.Faults.{Said, with_number, with_head, with_statement, with_body, with_tokens, faults_of_statement, faults_of_tokens}
-use Rattle.rv_asm.specs.Faults.{faults_in_body, faults_of_line}
+use Rattle.rv_asm.specs.Faults.{faults_of_line}
 use Rattle.rv_asm.specs.Sound.{IsSound}
 
 -- ---- lists of faults

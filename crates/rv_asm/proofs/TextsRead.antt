@@ -1,20 +1,17 @@
 -- A text reads as one image or has a fault.
-use Rattle.std.proofs.Common.{◌≡◌, ℕ, ◌+◌, ◌≤◌, ◌<◌, Bool, true, false, List, [], ◌∷◌, ◌++◌, length, map, Option, Some, None, Result, Ok, Err}
-use Rattle.std.proofs.Common.{refl, sym, ap, ap₂, subst, ◌∙◌, arith}
-use Rattle.std.specs.Prelude.{MatchResult}
+use Rattle.std.proofs.Common.{◌≡◌, ℕ, ◌+◌, List, [], ◌∷◌, ◌++◌, length, map, Some, Result, Ok, Err}
+use Rattle.std.proofs.Common.{refl, sym, ap, ap₂, ◌∙◌, arith}
 use Rattle.std.proofs.lemmas.List.{length-map}
-use Rattle.tam_word.specs.Lists.{all_of, all_differ, same_bytes}
-use Rattle.tam_text.specs.Lines.{lines_of, are_good_bytes}
+use Rattle.tam_word.specs.Lists.{all_differ, same_bytes}
+use Rattle.tam_text.specs.Lines.{lines_of}
 use Rattle.rv_inst.specs.Images.{Image}
-use Rattle.rv_image.specs.declared.image.TheConstants.{MAX_WORDS}
 use Rattle.rv_image.specs.ImageFiles.{IsImage}
 use Rattle.rv_asm.specs.declared.asm_error.AsmCause.{AsmCause}
 use Rattle.rv_asm.specs.declared.asm_error.AsmError.{AsmError}
 use Rattle.rv_asm.specs.declared.asm_error.AsmError.TheVariants.{At, NoMemory}
 use Rattle.rv_asm.specs.declared.head.Next.{Next}
 use Rattle.rv_asm.specs.declared.head.Next.TheVariants as next
-use Rattle.rv_asm.specs.Head.{head_number}
-use Rattle.rv_asm.specs.Statements.{Code, Statement, statement_of}
+use Rattle.rv_asm.specs.Statements.{Code, Statement}
 use Rattle.rv_asm.specs.Faults.{Said, Labels, Placed, nothing_said, said_in, last_line, first_faults, second_faults, second_pass, word_at, causes}
 use Rattle.rv_asm.specs.Faults.{faults_or, asm_faults, IsFirst}
 use Rattle.rv_asm.specs.Reading.{labels_from, codes_in, words_at, number_in, AreLines, AsmReads}
@@ -22,8 +19,8 @@ use Rattle.rv_asm.specs.Sound.{codes_of, all_there}
 use Rattle.rv_asm.proofs.Differ.{names}
 use Rattle.rv_asm.proofs.Numbers.{said_number}
 use Rattle.rv_asm.proofs.Rows.{rows}
-use Rattle.rv_asm.proofs.LinesRead.{Agrees, SomeReads, ReadsOn, reads_on}
-use Rattle.rv_asm.proofs.LinesBack.{Fits, lines_back}
+use Rattle.rv_asm.proofs.LinesRead.{Agrees, SomeReads, reads_on}
+use Rattle.rv_asm.proofs.LinesBack.{lines_back}
 
 -- the image of what is said and of words
 abbrev pub image_of : Said → List ℕ → Image

@@ -1,7 +1,7 @@
 -- Assembled and refused texts, by computation: words worked by hand or by an assembler, and each line and cause.
-use Rattle.std.specs.Prelude.{◌≡◌, ℕ, refl, List, [], ◌∷◌, ◌++◌, codes, flat_map, map, take, Result, Ok, Err}
+use Rattle.std.specs.Prelude.{◌≡◌, ℕ, refl, List, [], ◌∷◌, ◌++◌, codes, flat_map, map, take, Result, Ok}
 use Rattle.rv_asm.specs.declared.asm_error.AsmCause.{AsmCause}
-use Rattle.rv_asm.specs.declared.asm_error.AsmCause.TheVariants.{BadHead, BadLine, BadNumber, Offset, TwiceNamed, UnknownName, Ended}
+use Rattle.rv_asm.specs.declared.asm_error.AsmCause.TheVariants.{BadNumber, UnknownName, Ended}
 use Rattle.rv_asm.specs.Faults.{asm_faults, said_in}
 use Rattle.rv_asm.specs.Reading.{words_at}
 

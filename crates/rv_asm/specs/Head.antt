@@ -1,6 +1,6 @@
 -- The head lines of a text.
 -- The rule in words: docs/FORMATS.md, "Assembly text".
-use Rattle.std.specs.Prelude.{ℕ, Bool, true, false, nat_le, List, [], ◌∷◌, codes, Option, Some, None}
+use Rattle.std.specs.Prelude.{ℕ, Bool, true, false, nat_le, List, [], ◌∷◌, codes, Option, None}
 use Rattle.tam_word.specs.Lists.{same_bytes}
 use Rattle.tam_word.specs.Numbers.{word_of, some_if}
 use Rattle.rv_image.specs.declared.image.TheConstants.{MAX_PLACES}

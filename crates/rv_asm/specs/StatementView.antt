@@ -1,6 +1,5 @@
 -- What the code keeps of a text, without where it lies.
-use Rattle.std.specs.Prelude.{ℕ, List, [], ◌∷◌, map, Option, Some, None, Result, Ok, Err}
-use Rattle.std.specs.Option.{option_map}
+use Rattle.std.specs.Prelude.{ℕ, List, map, Result, Ok, Err}
 use Rattle.std.proofs.Common.{Bor}
 use Rattle.rv_asm.specs.declared.asm_error.AsmCause.{AsmCause}
 use Rattle.rv_asm.specs.declared.statement.Code.{Code as CodeAt}

@@ -17,7 +17,7 @@ use Rattle.rv_asm.specs.declared.jump.Jump.TheVariants as jump
 use Rattle.rv_asm.specs.declared.verb.Verb.{Verb}
 use Rattle.rv_asm.specs.declared.verb.Verb.TheVariants as verb
 use Rattle.rv_asm.specs.InstNames.{verb_called}
-use Rattle.rv_asm.specs.Tokens.{cut_at, is_comma}
+use Rattle.rv_asm.specs.Tokens.{cut_at}
 
 -- what has a word: the word, or an instruction that goes to a label
 pub data Code : Type 0 where

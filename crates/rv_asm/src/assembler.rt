@@ -1,6 +1,9 @@
 // The image of a text.
-ghost use Rattle.std.specs.Prelude.{◌≡◌, ◌≤◌, [], length, IfOk, OnOk, IfErr, MatchResult};
+ghost use Rattle.std.specs.Prelude.{◌≡◌, ◌≤◌, ◌^◌, [], length, IfOk, OnOk, IfErr, MatchResult};
 ghost use Rattle.rv_inst.specs.Images.{Image as MachineCode};
+ghost use Rattle.rv_image.specs.ImageFiles.{IsImage};
+ghost use Rattle.rv_image.specs.ImageLaws.{AreBelow};
+ghost use Rattle.rv_asm.specs.AsmText.{asm_text};
 ghost use Rattle.rv_asm.specs.declared.asm_error.AsmError.TheVariants.{NoMemory};
 ghost use Rattle.rv_asm.specs.Faults.{asm_faults, IsFirst};
 ghost use Rattle.rv_asm.specs.Reading.{AsmReads};
@@ -22,6 +25,10 @@ pub fn assemble(alloc: Global, text: &[u8]) -> Result<Image, AsmError>
 
     // A text that reads as an image assembles to that image alone, and only want of memory refuses it.
     ensures complete { (image : MachineCode) → AsmReads text.now image → MatchResult result (λ made. made ≡ image) (λ e. e ≡ NoMemory) }
+
+    // The text that is printed of an image of words assembles to that image.
+    ensures printed { (image : MachineCode) → IsImage image → AreBelow (2 ^ 32) image.words → text.now ≡ asm_text image → MatchResult result
+        (λ made. made ≡ image) (λ e. e ≡ NoMemory) }
 {
     let pass = match first_pass(alloc, text) {
         Ok(pass) => pass,

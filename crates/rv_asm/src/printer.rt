@@ -1,7 +1,9 @@
 // The assembly text of an image.
-ghost use Rattle.std.specs.Prelude.{◌≡◌, ◌++◌, OnOk, IfOk, decimal, flat_map, option_to_list};
+ghost use Rattle.std.specs.Prelude.{◌≡◌, ◌≤◌, ◌^◌, ◌++◌, OnOk, IfOk, decimal, flat_map, length, option_to_list};
 ghost use Rattle.tam_word.specs.Words.{signed_text};
 ghost use Rattle.rv_asm.specs.AsmText.{asm_text, head_line, word_line, word_text, inst_text, operands_text, further_operands, operands, operand_text, register};
+ghost use Rattle.rv_image.specs.ImageLaws.{AreBelow};
+ghost use Rattle.rv_asm.specs.Reading.{AsmReads};
 
 use crate::Operand;
 use crate::inst_name::name_text;
@@ -17,13 +19,23 @@ use tam_word::print_word;
 /// docs/FORMATS.md, "Assembly text".
 pub fn print_asm(alloc: Global, image: &Image) -> Result<Vec<u8>, NoMemory>
     ensures value { IfOk result (λ text. text.items ≡ asm_text image.now) }
+    ensures reads { IfOk result (λ text. AsmReads text.items image.now) }
+    ensures short { IfOk result (λ text. length text.items ≤ 4294967294) }
+{
+    print_lines(alloc, image, image.words())
+}
+
+// The head of an image, and a line for each word.
+fn print_lines(alloc: Global, image: &Image, words: &[u32]) -> Result<Vec<u8>, NoMemory>
+    ensures value { IfOk result (λ text. text.items ≡ asm_text (record image.now { words = words.now })) }
+    ensures below { AreBelow (2 ^ 32) words.now }
 {
     let mut text = Vec::new(alloc);
     push_head(&mut text, b".image ", 1)?;
     push_head(&mut text, b".stride ", image.stride())?;
     push_head(&mut text, b".params ", image.params())?;
     push_head(&mut text, b".results ", image.results())?;
-    push_words(&mut text, image.words())?;
+    push_words(&mut text, words)?;
     Ok(text)
 }
 

@@ -216,26 +216,44 @@ fn names(rt: HostRuntime) -> Result<(), Fail> {
     lines_show(&rt, rt.alloc(), &rows)
 }
 
+// The first word and the last of a text with so many calls between two lines.
 fn with_calls(alloc: Global, first: &str, calls: usize, last: &str) -> Result<String, Fail> {
     let mut text = format!(in alloc; "{}{}", HEAD, first)?;
     for _ in 0..calls {
         text.push_str("ecall\n")?;
     }
     text.push_str(last)?;
-    let mut shown = shown(alloc, text.as_bytes())?;
-    if calls > 100 && shown.len() > 100 {
-        shown = format!(in alloc; "assembled")?;
+    if text.len() > 4_294_967_294 {
+        return Ok(format!(in alloc; "too long")?);
     }
-    Ok(shown)
+    let Ok(image) = assemble(alloc, text.as_bytes()) else {
+        return shown(alloc, text.as_bytes());
+    };
+    match image.words() {
+        [word, .., behind] => Ok(format!(in alloc; "{word} .. {behind}")?),
+        words => Ok(format!(in alloc; "{words:?}")?),
+    }
+}
+
+// Texts of so many calls between two lines, each with what is shown of it.
+fn calls_show(
+    rt: &impl Abort,
+    alloc: Global,
+    rows: &[(&str, usize, &str, &str)],
+) -> Result<(), Fail> {
+    for (first, calls, last, wanted) in rows {
+        assert_eq!(rt; with_calls(alloc, first, *calls, last)?.as_str(), *wanted);
+    }
+    Ok(())
 }
 
 // Labels as far as a branch goes, and one word further; an unknown name behind it comes second.
 #[test]
-fn labels_far_away(rt: HostRuntime) -> Result<(), Fail> {
-    let rows: [(&str, usize, &str, &str); 6] = [
-        ("far:\n", 1_024, "beq x0, x0, far\n", "assembled"),
+fn branches_far_away(rt: HostRuntime) -> Result<(), Fail> {
+    let rows = [
+        ("far:\n", 1_024, "beq x0, x0, far\n", "115 .. 2147483747"),
         ("far:\n", 1_025, "beq x0, x0, far\n", "1031 Offset"),
-        ("beq x0, x0, far\n", 1_022, "far:\n", "assembled"),
+        ("beq x0, x0, far\n", 1_022, "far:\n", "2113933027 .. 115"),
         ("beq x0, x0, far\n", 1_023, "far:\n", "5 Offset"),
         (
             "beq x0, x0, far\n",
@@ -250,12 +268,26 @@ fn labels_far_away(rt: HostRuntime) -> Result<(), Fail> {
             "5 UnknownName",
         ),
     ];
-    for (first, calls, last, wanted) in &rows {
-        assert_eq!(rt;
-            with_calls(rt.alloc(), first, *calls, last)?.as_str(),
-            *wanted
-        );
-    }
+    calls_show(&rt, rt.alloc(), &rows)
+}
+
+// Labels as far as a jump goes, and one word further.
+#[test]
+fn jumps_far_away(rt: HostRuntime) -> Result<(), Fail> {
+    let rows = [
+        ("far:\n", 262_144, "jal x0, far\n", "115 .. 2147483759"),
+        ("far:\n", 262_145, "jal x0, far\n", "262151 Offset"),
+        ("jal x0, far\n", 262_142, "far:\n", "2145382511 .. 115"),
+        ("jal x0, far\n", 262_143, "far:\n", "5 Offset"),
+    ];
+    calls_show(&rt, rt.alloc(), &rows)
+}
+
+// One word more than the most that an image has.
+#[test]
+fn too_many_words(rt: HostRuntime) -> Result<(), Fail> {
+    let fault = with_calls(rt.alloc(), "", 16_777_211, "far:\n")?;
+    assert_eq!(rt; fault.as_str(), "16777215 TooMany");
     Ok(())
 }
 

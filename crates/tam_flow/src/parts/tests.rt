@@ -83,9 +83,16 @@ fn classes(alloc: Global, letters: &[u8]) -> Result<Parts, Fail>
     Ok(parts)
 }
 
+// Whether these classes of the vertices of `two_ways` are a valid partition.
+fn is_valid(alloc: Global, letters: &[u8]) -> Result<bool, Fail> {
+    let block = two_ways(alloc)?;
+    let parts = classes(alloc, letters)?;
+    let valid = check_parts(alloc, &block, &parts)?;
+    Ok(valid)
+}
+
 #[test]
 fn partitions_with_two_ways(rt: HostRuntime) -> Result<(), Fail> {
-    let block = two_ways(rt.alloc())?;
     // One letter for each vertex: a, b, s, t, the first and the second result.
     let cases: [(&[u8], bool); 12] = [
         (b"ababab", true),
@@ -104,8 +111,7 @@ fn partitions_with_two_ways(rt: HostRuntime) -> Result<(), Fail> {
         (b"abcbab", false),
     ];
     for (letters, valid) in cases {
-        let parts = classes(rt.alloc(), letters)?;
-        assert_eq!(rt; check_parts(rt.alloc(), &block, &parts)?, valid, "for {letters:?}");
+        assert_eq!(rt; is_valid(rt.alloc(), letters)?, valid, "for {letters:?}");
     }
     Ok(())
 }

@@ -229,14 +229,18 @@ fn are_told(
 fn random_journals_of_a_sum(rt: HostRuntime) -> Result<(), Fail> {
     let alloc = rt.alloc();
     let graph = sum(alloc)?;
-    are_told(&rt, alloc, &graph, &one_class(alloc)?, &[2, 3], &SUM_IN_ONE)?;
-    are_told(&rt, alloc, &graph, &singles(alloc, 4)?, &[2, 3], &SUM_IN_SINGLES)
+    let whole = one_class(alloc)?;
+    are_told(&rt, alloc, &graph, &whole, &[2, 3], &SUM_IN_ONE)?;
+    let cut = singles(alloc, 4)?;
+    are_told(&rt, alloc, &graph, &cut, &[2, 3], &SUM_IN_SINGLES)
 }
 
 #[test]
 fn random_journals_of_what_waits(rt: HostRuntime) -> Result<(), Fail> {
     let alloc = rt.alloc();
     let graph = waiting(alloc)?;
-    are_told(&rt, alloc, &graph, &four_classes(alloc)?, &[6], &WAITING_IN_FOUR)?;
-    are_told(&rt, alloc, &graph, &singles(alloc, 10)?, &[6], &WAITING_IN_SINGLES)
+    let joined = four_classes(alloc)?;
+    are_told(&rt, alloc, &graph, &joined, &[6], &WAITING_IN_FOUR)?;
+    let cut = singles(alloc, 10)?;
+    are_told(&rt, alloc, &graph, &cut, &[6], &WAITING_IN_SINGLES)
 }

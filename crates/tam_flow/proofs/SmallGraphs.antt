@@ -1,12 +1,14 @@
 -- The graphs of the tests are accepted.
-use Rattle.std.proofs.Common.{◌≡◌, ℕ, zero, suc, true, List, [], ◌∷◌, None, Some, nat_lt, slice_get, ◌<◌, ◌^◌, refl, arith, tests}
+use Rattle.std.proofs.Common.{◌≡◌, ℕ, zero, suc, true, List, [], ◌∷◌, None, Some, nat_lt, slice_get, ◌<◌, ◌^◌, refl, arith, tests, length}
 use Rattle.tam_graph.specs.declared.node.Node.{Node}
 use Rattle.tam_graph.specs.declared.kind.Kind.{Kind}
 use Rattle.tam_graph.specs.declared.kind.Kind.TheVariants.{Param, Const, Op as Operate, Give, Alloc, Fetch}
-use Rattle.tam_word.specs.declared.op.Op.TheVariants.{Add}
+use Rattle.tam_word.specs.declared.op.Op.TheVariants.{Add, Mul}
 use Rattle.tam_graph.specs.Graphs.{Graph, AreArguments, graph_of, main_name, code_of}
 use Rattle.tam_graph.specs.Accepted.{IsAccepted}
 use Rattle.tam_graph.specs.Written.{IsWritten}
+use Rattle.tam_split.specs.Blocks.{block_graph}
+use Rattle.tam_split.specs.Partitions.{single}
 use Rattle.tam_split.specs.GraphPartitions.{are_valid}
 
 -- a node with a name in the body
@@ -65,6 +67,10 @@ module _ (n cells z v x y : List ℕ) where
   pub waiting-valid : are_valid (one_block waiting_nodes) ((((0 ∷ 1 ∷ 3 ∷ []) ∷ (2 ∷ 4 ∷ []) ∷ (5 ∷ 8 ∷ []) ∷ (6 ∷ 7 ∷ 9 ∷ []) ∷ []) ∷ []) ∷ []) ≡ true
   waiting-valid = refl
 
+  -- and so is one class per vertex
+  pub waiting-valid_singly : are_valid (one_block waiting_nodes) ((single 10 ∷ []) ∷ []) ≡ true
+  waiting-valid_singly = refl
+
   -- it takes one argument
   pub waiting-arguments : AreArguments (one_block waiting_nodes) (6 ∷ [])
   waiting-arguments = record { one_each = refl; words = six }
@@ -72,3 +78,29 @@ module _ (n cells z v x y : List ℕ) where
       six : (k w : ℕ) → slice_get (6 ∷ []) k ≡ Some w → w < 2 ^ 32
       six zero w h = let e : 6 ≡ w = cc in omega (arith, e)
       six (suc k) w h = let no_word : None ≡ Some w = h in cc
+
+module _ (a b s t : List ℕ) where
+  -- two results, each of a param of its own
+  abbrev pub two_ways_nodes : List Node
+  two_ways_nodes =
+      named a 0 (Param 0) ∷ named b 0 (Param 1) ∷ named s 0 (Operate Add 0 0) ∷ named t 0 (Operate Mul 1 1) ∷ nameless (Give 0 2) ∷ nameless (Give 1 3) ∷ []
+
+  two_ways-written : (m : ℕ) → nat_lt m 1 ≡ true → IsWritten 1 (code_of (one_block two_ways_nodes) m)
+  two_ways-written zero h = record {
+    nodes_in_order = refl;
+    blocks_in_order = refl;
+    lines = refl;
+    depths = refl;
+    shallow = refl;
+    small_blocks = refl;
+    small = refl;
+  }
+  two_ways-written (suc m) h = absurd (only-zero m h)
+
+  -- are accepted
+  pub two_ways-accepted : IsAccepted (one_block two_ways_nodes)
+  two_ways-accepted = record { has_main = refl; few_codes = refl; written = two_ways-written; no_fault = refl }
+
+  -- and have six vertices
+  pub two_ways-vertices : length (block_graph (code_of (one_block two_ways_nodes) 0) 0).vertices ≡ 6
+  two_ways-vertices = refl

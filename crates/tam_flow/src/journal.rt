@@ -8,6 +8,8 @@ ghost use Rattle.tam_flow.specs.Machines.{state_of};
 ghost use Rattle.tam_flow.specs.CheckedEvents.{event_of, events_of, partitions_of, BlocksStand, IsAsked, Makes};
 
 #[cfg(test)]
+mod random;
+#[cfg(test)]
 mod tests;
 
 use crate::class_run::{fire_places, has_run, inlets_have_words, those_before_ran};

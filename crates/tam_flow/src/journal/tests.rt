@@ -1,12 +1,15 @@
-// Journals of small graphs. Which of them are legal is worked by hand.
-ghost use Rattle.std.specs.Prelude.{◌≡◌, ◌<◌, [], ◌∷◌, true, length, IfOk};
+// Journals of small graphs. Which of them are legal is worked by hand, or by tests/random_journals.py.
+ghost use Rattle.std.specs.Prelude.{◌≡◌, ◌<◌, ◌≤◌, [], ◌∷◌, true, length, IfOk, IsTrue};
 ghost use Rattle.tam_graph.specs.Graphs.{AreArguments};
+ghost use Rattle.tam_split.specs.Partitions.{single};
 ghost use Rattle.tam_split.specs.GraphPartitions.{are_valid};
 ghost use Rattle.tam_flow.specs.CheckedEvents.{partitions_of};
 
+use super::random::{SUM_IN_ONE, SUM_IN_SINGLES, WAITING_IN_FOUR, WAITING_IN_SINGLES};
 use crate::JournalEvent::{Deliver, Run};
 use crate::{JournalEvent, check_journal};
 use std::alloc::Global;
+use std::process::Abort;
 use std::test::Fail;
 use tam_graph::{Accepted, Code, Graph, Kind, Name, Node};
 use tam_split::Parts;
@@ -35,6 +38,7 @@ fn node(name: Option<Name>, depth: u8, kind: Kind) -> Node
 // dg 1 / code main / a = param 0 / b = param 1 / s = add a b / result 0 s / end
 fn sum(alloc: Global) -> Result<Accepted, Fail>
     ensures valid { IfOk result (λ g. are_valid g ((((0 ∷ 1 ∷ 2 ∷ 3 ∷ []) ∷ []) ∷ []) ∷ []) ≡ true) }
+    ensures valid_singly { IfOk result (λ g. are_valid g ((single 4 ∷ []) ∷ []) ≡ true) }
     ensures arguments { IfOk result (λ g. AreArguments g (2 ∷ 3 ∷ [])) }
 {
     let main = name(b"main")?;
@@ -110,6 +114,7 @@ fn journals_of_a_sum(rt: HostRuntime) -> Result<(), Fail> {
 // dg 1 / code main / n = const 1 / A:1 = alloc n / z = const 0 / v = fetch A z / x = param 0 / y = add x n / result 0 v / result 1 y / end
 fn waiting(alloc: Global) -> Result<Accepted, Fail>
     ensures valid { IfOk result (λ g. are_valid g ((((0 ∷ 1 ∷ 3 ∷ []) ∷ (2 ∷ 4 ∷ []) ∷ (5 ∷ 8 ∷ []) ∷ (6 ∷ 7 ∷ 9 ∷ []) ∷ []) ∷ []) ∷ []) ≡ true) }
+    ensures valid_singly { IfOk result (λ g. are_valid g ((single 10 ∷ []) ∷ []) ≡ true) }
     ensures arguments { IfOk result (λ g. AreArguments g (6 ∷ [])) }
 {
     let main = name(b"main")?;
@@ -160,4 +165,82 @@ fn an_empty_list_is_a_journal(rt: HostRuntime) -> Result<(), Fail> {
     let parts = four_classes(rt.alloc())?;
     assert!(rt; check_journal(rt.alloc(), &graph, &parts, &[6], &[])?);
     Ok(())
+}
+
+// A class for each of so many vertices.
+fn singles(alloc: Global, n: u32) -> Result<Vec<Vec<Parts>>, Fail>
+    requires few { n ≤ 128 }
+    ensures { IfOk result (λ parts. partitions_of parts.items ≡ (single n ∷ []) ∷ []) }
+{
+    let parts = vec![in alloc; vec![in alloc; Parts::single(alloc, n)?]?]?;
+    Ok(parts)
+}
+
+// The event that a letter of a table stands for.
+fn event(letter: u8) -> Option<JournalEvent> {
+    let (act, block, first) = match letter {
+        b'0'..=b'9' => {
+            let message = u32::from(letter - b'0');
+            return Some(Deliver { message });
+        }
+        b'A'..=b'Z' => (0, 0, b'A'),
+        b'a'..=b'm' => (0, 1, b'a'),
+        b'n'..=b'z' => (1, 0, b'n'),
+        _ => return None,
+    };
+    let class = u32::from(letter - first);
+    Some(Run { act, block, class })
+}
+
+// The events of a row of a table.
+fn events(alloc: Global, letters: &[u8]) -> Result<Vec<JournalEvent>, Fail> {
+    let mut events = Vec::new(alloc);
+    for letter in letters {
+        events.push(event(*letter).ok_or("an event")?)?;
+    }
+    Ok(events)
+}
+
+// Each list of a table is told a journal or not, as the table says.
+fn are_told(
+    rt: &impl Abort,
+    alloc: Global,
+    graph: &Accepted,
+    parts: &[Vec<Parts>],
+    args: &[u32],
+    table: &[(&[u8], bool)],
+) -> Result<(), Fail>
+    requires valid { IsTrue (are_valid graph.now (partitions_of parts.now)) }
+    requires arguments { AreArguments graph.now args.now }
+{
+    for (letters, legal) in table {
+        let events = events(alloc, letters)?;
+        assert!(rt; events.len() <= 12);
+        assert_eq!(rt;
+            check_journal(alloc, graph, parts, args, &events)?,
+            *legal,
+            "for {events:?}"
+        );
+    }
+    Ok(())
+}
+
+#[test]
+fn random_journals_of_a_sum(rt: HostRuntime) -> Result<(), Fail> {
+    let alloc = rt.alloc();
+    let graph = sum(alloc)?;
+    let whole = one_class(alloc)?;
+    are_told(&rt, alloc, &graph, &whole, &[2, 3], &SUM_IN_ONE)?;
+    let cut = singles(alloc, 4)?;
+    are_told(&rt, alloc, &graph, &cut, &[2, 3], &SUM_IN_SINGLES)
+}
+
+#[test]
+fn random_journals_of_what_waits(rt: HostRuntime) -> Result<(), Fail> {
+    let alloc = rt.alloc();
+    let graph = waiting(alloc)?;
+    let joined = four_classes(alloc)?;
+    are_told(&rt, alloc, &graph, &joined, &[6], &WAITING_IN_FOUR)?;
+    let cut = singles(alloc, 10)?;
+    are_told(&rt, alloc, &graph, &cut, &[6], &WAITING_IN_SINGLES)
 }

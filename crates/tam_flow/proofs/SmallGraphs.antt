@@ -1,9 +1,10 @@
 -- The graphs of the tests are accepted.
 use Rattle.std.proofs.Common.{◌≡◌, ℕ, zero, suc, true, List, [], ◌∷◌, None, Some, nat_lt, slice_get, ◌<◌, ◌^◌, refl, arith, tests, length}
+use Rattle.std.specs.Prelude.{codes}
 use Rattle.tam_graph.specs.declared.node.Node.{Node}
 use Rattle.tam_graph.specs.declared.kind.Kind.{Kind}
-use Rattle.tam_graph.specs.declared.kind.Kind.TheVariants.{Param, Const, Op as Operate, Give, Alloc, Fetch}
-use Rattle.tam_word.specs.declared.op.Op.TheVariants.{Add, Mul}
+use Rattle.tam_graph.specs.declared.kind.Kind.TheVariants.{Param, Const, Op as Operate, Call, Arg, Ret, Give, Alloc, Fetch}
+use Rattle.tam_word.specs.declared.op.Op.TheVariants.{Add}
 use Rattle.tam_graph.specs.Graphs.{Graph, AreArguments, graph_of, main_name, code_of}
 use Rattle.tam_graph.specs.Accepted.{IsAccepted}
 use Rattle.tam_graph.specs.Written.{IsWritten}
@@ -79,14 +80,24 @@ module _ (n cells z v x y : List ℕ) where
       six zero w h = let e : 6 ≡ w = cc in omega (arith, e)
       six (suc k) w h = let no_word : None ≡ Some w = h in cc
 
-module _ (a b s t : List ℕ) where
-  -- two results, each of a param of its own
-  abbrev pub two_ways_nodes : List Node
-  two_ways_nodes =
-      named a 0 (Param 0) ∷ named b 0 (Param 1) ∷ named s 0 (Operate Add 0 0) ∷ named t 0 (Operate Mul 1 1) ∷ nameless (Give 0 2) ∷ nameless (Give 1 3) ∷ []
+module _ (x f y z a b one c d : List ℕ) where
+  -- a code whose call's first result is the second argument, and the code that it calls
+  abbrev pub fed_back : Graph
+  fed_back =
+      graph_of (record {
+        name = main_name;
+        nodes = named x 0 (Param 0) ∷ named f 0 (Call 1) ∷ nameless (Arg 1 0 0) ∷ named y 0 (Ret 1 0) ∷ nameless (Arg 1 1 3) ∷ named z 0 (Ret 1 1)
+            ∷ nameless (Give 0 5) ∷ [];
+        owners = None ∷ [];
+      } ∷ record {
+        name = codes "g";
+        nodes = named a 0 (Param 0) ∷ named b 0 (Param 1) ∷ named one 0 (Const 1) ∷ named c 0 (Operate Add 0 2) ∷ named d 0 (Operate Add 1 3)
+            ∷ nameless (Give 0 3) ∷ nameless (Give 1 4) ∷ [];
+        owners = None ∷ [];
+      } ∷ [])
 
-  two_ways-written : (m : ℕ) → nat_lt m 1 ≡ true → IsWritten 1 (code_of (one_block two_ways_nodes) m)
-  two_ways-written zero h = record {
+  fed_back-written : (m : ℕ) → nat_lt m 2 ≡ true → IsWritten 2 (code_of fed_back m)
+  fed_back-written zero h = record {
     nodes_in_order = refl;
     blocks_in_order = refl;
     lines = refl;
@@ -95,12 +106,21 @@ module _ (a b s t : List ℕ) where
     small_blocks = refl;
     small = refl;
   }
-  two_ways-written (suc m) h = absurd (only-zero m h)
+  fed_back-written (suc zero) h = record {
+    nodes_in_order = refl;
+    blocks_in_order = refl;
+    lines = refl;
+    depths = refl;
+    shallow = refl;
+    small_blocks = refl;
+    small = refl;
+  }
+  fed_back-written (suc (suc m)) h = absurd (grind (arith, tests))
 
-  -- are accepted
-  pub two_ways-accepted : IsAccepted (one_block two_ways_nodes)
-  two_ways-accepted = record { has_main = refl; few_codes = refl; written = two_ways-written; no_fault = refl }
+  -- is accepted
+  pub fed_back-accepted : IsAccepted fed_back
+  fed_back-accepted = record { has_main = refl; few_codes = refl; written = fed_back-written; no_fault = refl }
 
-  -- and have six vertices
-  pub two_ways-vertices : length (block_graph (code_of (one_block two_ways_nodes) 0) 0).vertices ≡ 6
-  two_ways-vertices = refl
+  -- and the second has seven vertices
+  pub fed_back-vertices : length (block_graph (code_of fed_back 1) 0).vertices ≡ 7
+  fed_back-vertices = refl

@@ -8,5 +8,5 @@ pub loop-b-preserved-then-eq : goal.loop-b-preserved-then-eq
 loop-b-preserved-then-eq c =
     let in_order : c.loop-a.a < c.loop-b.b - 1 = omega (arith, c.loop-b-test.true, c.loop-b.auto.b) in
     let in_range : c.loop-b.b - 1 < length c.loop-b.parts = omega (arith, c.if-b-classes.true, c.classes.ensures.value) in
-    subst (λ (ps : Parts). HaveEach 6 ps) (sym c.merge.ensures.value)
-    (have_each-merged 6 c.loop-b.parts c.loop-b.invariant c.loop-a.a (c.loop-b.b - 1) in_order in_range)
+    subst (λ (ps : Parts). HaveEach 7 ps) (sym c.merge.ensures.value)
+    (have_each-merged 7 c.loop-b.parts c.loop-b.invariant c.loop-a.a (c.loop-b.b - 1) in_order in_range)

@@ -4,6 +4,8 @@
 //! Over the assembler and the machine.
 #![tactic(auto)]
 
+ghost use Rattle.std.specs.Prelude.{◌≤◌, length, IfSome};
+
 use rv_asm::assemble;
 use rv_machine::{Rv, RvStep};
 use std::alloc::Global;
@@ -11,7 +13,7 @@ use std::env;
 use std::process::ExitCode;
 use tam_word::read_number;
 
-const COUNT: &str = ".image 1
+const COUNT: &[u8] = b".image 1
 .stride 32
 .params 0
 .results 0
@@ -20,7 +22,7 @@ addi x5, x5, 1
 bne x5, x0, on
 ";
 
-const COPY: &str = ".image 1
+const COPY: &[u8] = b".image 1
 .stride 32
 .params 0
 .results 0
@@ -50,22 +52,31 @@ fn main(rt: HostRuntime) -> ExitCode {
 }
 
 // The text of the loop, and how many steps of it are asked for.
-fn asked(rt: &HostRuntime) -> Option<(&'static str, u32)> {
+fn asked(rt: &HostRuntime) -> Option<(&'static [u8], u32)>
+    ensures few { IfSome result (λ asked. length asked.0.now ≤ 1000) }
+{
     let mut words = env::args(rt).ok()?.skip(1);
-    let text = match words.next()?.as_str() {
-        "count" => COUNT,
-        "copy" => COPY,
-        _ => return None,
-    };
+    let text = text_of(words.next()?.as_str())?;
     let steps = read_number(words.next()?.as_str().as_bytes(), u32::MAX)?;
     Some((text, steps))
 }
 
-// A machine at the first word of the text, with one frame.
-fn machine(alloc: Global, text: &str) -> Option<Rv>
-    requires { length text.now ≤ 1000 }
+// The text of the loop of a name.
+fn text_of(name: &str) -> Option<&'static [u8]>
+    ensures few { IfSome result (λ text. length text.now ≤ 1000) }
 {
-    let image = assemble(alloc, text.as_bytes()).ok()?;
+    match name {
+        "count" => Some(COUNT),
+        "copy" => Some(COPY),
+        _ => None,
+    }
+}
+
+// A machine at the first word of the text, with one frame.
+fn machine(alloc: Global, text: &[u8]) -> Option<Rv>
+    requires few { length text.now ≤ 1000 }
+{
+    let image = assemble(alloc, text).ok()?;
     Rv::new(alloc, &image, 1).ok()
 }
 

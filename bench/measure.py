@@ -3,7 +3,7 @@
 usage: measure.py PROGRAM [PART ..]
 
 The parts of the program `tam` are `runs`, `words`, `texts`, `hostile`, `blocks` and `assembly`; without one all of these are measured. The part
-`machine` is measured on the program `rv_loop`. Each line of output is a row of RESULTS.md. A time is the least of several runs, memory the least address space within which the run still has its
+`loops` is measured on the program of that name (crates/loops). Each line of output is a row of RESULTS.md. A time is the least of several runs, memory the least address space within which the run still has its
 status and output.
 """
 
@@ -117,16 +117,16 @@ def measure_assembly(program):
         measure(program, "assemble", f"{size >> 20} MB", texts.assembly(size), [])
 
 
-def measure_machine(program):
-    """Rows of the machine's loops, with steps in the place of events."""
-    for loop in ("count", "copy"):
-        for steps in (1 << 24, 1 << 25, 1 << 26):
-            words = [loop, str(steps)]
+def measure_loops(program):
+    """Rows with the times of a loop in the place of events."""
+    for loop in ("count", "copy", "words"):
+        for times in (1 << 24, 1 << 25, 1 << 26):
+            words = [loop, str(times)]
             runs = runs_of(program, words)
             end = runs[0][1]
             memory = least_memory(program, words, end)
             seconds = min(run[0] for run in runs)
-            print(f"| rv_loop, {loop} | | {end[0]} | {steps} | {seconds * 1000:.1f} | {steps / seconds:.0f} | {memory} |", flush=True)
+            print(f"| loops, {loop} | | {end[0]} | {times} | {seconds * 1000:.1f} | {times / seconds:.0f} | {memory} |", flush=True)
 
 
 PARTS = {
@@ -136,10 +136,10 @@ PARTS = {
     "texts": measure_texts,
     "hostile": measure_hostile,
     "blocks": measure_blocks,
-    "machine": measure_machine,
+    "loops": measure_loops,
 }
 
-OF_TAM = [part for part in PARTS if part != "machine"]
+OF_TAM = [part for part in PARTS if part != "loops"]
 
 
 def main():

@@ -1,0 +1,110 @@
+//! Loops that bench/ measures: instructions of the machine, and words that are printed and read.
+//!
+//! `loops count STEPS` makes so many steps of a machine that counts in a register, `loops copy STEPS` of one that loads and stores; both print the
+//! register x5 then. `loops words COUNT` prints so many words into a buffer, reads each again and prints their sum.
+//! Over the assembler, the machine and words.
+#![tactic(auto)]
+
+ghost use Rattle.std.specs.Prelude.{◌≤◌, length};
+
+use rv_asm::assemble;
+use rv_machine::{Rv, RvStep};
+use std::alloc::Global;
+use std::env;
+use std::process::ExitCode;
+use tam_word::{print_word, read_number, read_word};
+
+const COUNT: &[u8] = b".image 1
+.stride 32
+.params 0
+.results 0
+on:
+addi x5, x5, 1
+bne x5, x0, on
+";
+
+const COPY: &[u8] = b".image 1
+.stride 32
+.params 0
+.results 0
+on:
+lw x5, 32(x0)
+addi x5, x5, 1
+sw x5, 32(x0)
+jal x0, on
+";
+
+// An odd number: its multiples are all words, of every length.
+const SPREAD: u32 = 2_654_435_761;
+
+const USAGE: u8 = 2;
+
+const NO_MEMORY: u8 = 11;
+
+enum Loop {
+    Count,
+    Copy,
+    Words,
+}
+
+fn main(rt: HostRuntime) -> ExitCode {
+    let Some((kind, times)) = asked(&rt) else {
+        return ExitCode::from(USAGE);
+    };
+    let Some(end) = run(rt.alloc(), kind, times) else {
+        return ExitCode::from(NO_MEMORY);
+    };
+    if println!(rt; "{end}").is_err() {
+        return ExitCode::FAILURE;
+    }
+    ExitCode::SUCCESS
+}
+
+// The loop, and how many times it is asked for.
+fn asked(rt: &HostRuntime) -> Option<(Loop, u32)> {
+    let mut words = env::args(rt).ok()?.skip(1);
+    let kind = match words.next()?.as_str() {
+        "count" => Loop::Count,
+        "copy" => Loop::Copy,
+        "words" => Loop::Words,
+        _ => return None,
+    };
+    let times = read_number(words.next()?.as_str().as_bytes(), u32::MAX)?;
+    Some((kind, times))
+}
+
+// What is left at the end of a loop, where there is memory for it.
+fn run(alloc: Global, kind: Loop, times: u32) -> Option<u32> {
+    match kind {
+        Loop::Count => run_machine(alloc, COUNT, times),
+        Loop::Copy => run_machine(alloc, COPY, times),
+        Loop::Words => Some(sum_of_words(times)),
+    }
+}
+
+// The register x5 after so many steps, or fewer where one traps.
+fn run_machine(alloc: Global, text: &[u8], steps: u32) -> Option<u32>
+    requires few { length text.now ≤ 1000 }
+{
+    let image = assemble(alloc, text).ok()?;
+    let mut rv = Rv::new(alloc, &image, 1).ok()?;
+    for _ in 0..steps {
+        if rv.step() != RvStep::Done {
+            break;
+        }
+    }
+    Some(rv.reg(5))
+}
+
+// The sum of so many words, each printed and read again.
+fn sum_of_words(count: u32) -> u32 {
+    let mut sum = 0_u32;
+    let mut digits = [0; 11];
+    for n in 0..count {
+        let len = print_word(n.wrapping_mul(SPREAD), &mut digits);
+        if let Some(word) = read_word(&digits[..len]) {
+            sum = sum.wrapping_add(word);
+        }
+    }
+    sum
+}

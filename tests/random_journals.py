@@ -5,7 +5,7 @@ usage: random_journals.py > crates/tam_flow/src/journal/random.rt
        random_journals.py --check
 
 With `--check` it compares the table with the one in the crate. Half of the lists are walks along the rules, the others
-are walks in which one event is changed. The chance is seeded, so each run makes the same lists.
+are walks in which one event was changed so that the rules refuse it. The chance is seeded, so each run makes the same lists.
 
 A plain and slow program: it keeps all that happened and asks the rules anew before each event. It takes nothing from
 the program that it tests. The rules: the arguments are sent first, by place. A class of the body of the root runs once,
@@ -35,6 +35,7 @@ CASES = [
 
 LISTS = 24
 LONGEST = 12
+WAYS = ["repeat", "move", "leave out", "elsewhere", "replace", "repeat", "move", "elsewhere"]
 
 
 class Block:
@@ -171,31 +172,36 @@ def any_event(chance, block):
     return pick(chance, [message, message, message, ("run", 0, 0, number), ("run", 0, 0, number), ("run", 1, 0, number), ("run", 0, 1, number)])
 
 
-def changed(chance, block, events):
-    """The events with one of them replaced, repeated, left out or moved."""
-    place = pick(chance, range(len(events) + 1))
-    way = pick(chance, ["replace", "replace", "repeat", "leave out", "move"])
-    if way == "replace" or not events:
-        return events[:place] + [any_event(chance, block)] + events[place + 1:]
-    event = pick(chance, events)
+def changed(chance, block, events, way):
+    """The events with one of them repeated, moved, left out, put elsewhere (where it is a run), or another in its place."""
+    event, place = pick(chance, events), pick(chance, range(len(events) + 1))
+    others = [other for other in events if other != event]
     if way == "repeat":
         return events[:place] + [event] + events[place:]
-    events = [other for other in events if other != event]
-    return events if way == "leave out" else events[:place] + [event] + events[place:]
+    if way == "move":
+        return others[:place] + [event] + others[place:]
+    if way == "leave out":
+        return others
+    if way == "elsewhere":
+        activation, number = pick(chance, [(1, 0), (0, 1)])
+        return [("run", activation, number, event[3]) if other == event and event[0] == "run" else other for other in events]
+    return events[:place] + [any_event(chance, block)] + events[place + 1:]
 
 
 def lists(name, block, arguments):
-    """Different lists, each with whether it is a journal. Where the rules allow few walks, more of the lists are changed ones."""
+    """Different lists, each with whether it is a journal: half of them walks, where the rules allow so many, then changed walks that the rules refuse."""
     chance, rows = random.Random(name), {}
-    for turn in range(2000):
+    for _ in range(1000):
         events = walk(chance, block, arguments)
-        if turn % 2 == 1 or turn >= 1000:
-            events = changed(chance, block, events)
-        if len(events) <= LONGEST:
+        if len(rows) < LISTS // 2:
             rows.setdefault(tuple(events), is_journal(block, arguments, events))
-        if len(rows) == LISTS:
-            return rows
-    raise ValueError(name)
+    while len(rows) < LISTS:
+        events = walk(chance, block, arguments)
+        if events:
+            events = changed(chance, block, events, WAYS[len(rows) % len(WAYS)])
+        if len(events) <= LONGEST and not is_journal(block, arguments, events):
+            rows.setdefault(tuple(events), False)
+    return rows
 
 
 def letter(event):

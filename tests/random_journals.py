@@ -11,9 +11,9 @@ A plain and slow program: it keeps all that happened and asks the rules anew bef
 the program that it tests. The rules: the arguments are sent first, by place. A class of the body of the root runs once,
 after each of its inlets has got a word and each class from which an edge leads to it has run. Its vertices fire with no
 vertex before one that gives it a value, the least first where several may. Firing an operator writes its word. Firing an
-alloc, a fetch or a result sends a message. Each message arrives once, after it was sent: a word for a node is written,
-a result goes outside, an alloc is answered by a new array, a fetch by a cell's word once there is one. An access outside
-an array ends the journal. Messages are numbered in the order in which they are sent.
+alloc, a fetch, a store or a result sends a message. Each message arrives once, after it was sent: a word for a node is
+written, a result goes outside, an alloc is answered by a new array, a fetch by a cell's word once there is one. A second
+store into a cell and an access outside an array end the journal. Messages are numbered in the order in which they are sent.
 """
 
 import os
@@ -24,6 +24,7 @@ TABLE = os.path.join(os.path.dirname(os.path.dirname(os.path.abspath(__file__)))
 
 SUM = ["a = param 0", "b = param 1", "s = add a b", "result 0 s"]
 WAITING = ["n = const 1", "A = alloc n", "z = const 0", "v = fetch A z", "x = param 0", "y = add x n", "result 0 v", "result 1 y"]
+WRITING = ["n = const 1", "A = alloc n", "z = const 0", "x = param 0", "store A z n", "store A x z", "v = fetch A z", "result 0 v"]
 
 # name of the table, what it has, nodes, arguments, classes
 CASES = [
@@ -31,10 +32,12 @@ CASES = [
     ("SUM_IN_SINGLES", "The sum of 2 and 3, each vertex a class.", SUM, [2, 3], [[place] for place in range(4)]),
     ("WAITING_IN_FOUR", "A cell that is never written, in four classes.", WAITING, [6], [[0, 1, 3], [2, 4], [5, 8], [6, 7, 9]]),
     ("WAITING_IN_SINGLES", "A cell that is never written, each vertex a class.", WAITING, [6], [[place] for place in range(10)]),
+    ("WRITING_IN_FOUR", "A cell that is written twice, in four classes.", WRITING, [0], [[0, 1], [2, 3, 5, 7], [4, 6], [8, 9]]),
+    ("WRITING_IN_SINGLES", "A store outside an array, each vertex a class.", WRITING, [1], [[place] for place in range(10)]),
 ]
 
 LISTS = 24
-LONGEST = 12
+LONGEST = 18
 WAYS = ["repeat", "move", "leave out", "elsewhere", "replace", "repeat", "move", "elsewhere"]
 
 
@@ -117,7 +120,7 @@ class Journal:
             self.words[node] = sum(words) % 2**32
         elif verb == "result":
             self.sent.append(("outside", number, words[0]))
-        elif verb in ("alloc", "fetch"):
+        elif verb in ("alloc", "fetch", "store"):
             self.sent.append((verb, node, words))
         else:
             raise ValueError(verb)
@@ -127,12 +130,24 @@ class Journal:
         if kind == "word":
             self.words[node] = carried
         elif kind == "alloc":
-            self.arrays.append(carried[0])
+            self.arrays.append((carried[0], {}, {}))
             self.sent.append(("word", node, len(self.arrays) - 1))
-        elif kind == "fetch":
-            # No graph here stores, so a fetch waits for good, or is outside.
-            array, index = carried
-            self.ended = index >= self.arrays[array]
+        elif kind in ("fetch", "store"):
+            self.access(kind, node, *carried)
+
+    def access(self, kind, node, array, index, word=None):
+        """A fetch or a store arrives. Of an array its length, its words and those who wait for a word are kept, by index."""
+        length, words, waiting = self.arrays[array]
+        self.ended = index >= length or kind == "store" and index in words
+        if self.ended:
+            return
+        if kind == "store":
+            words[index] = word
+            self.sent += [("word", reader, word) for reader in waiting.pop(index, [])]
+        elif index in words:
+            self.sent.append(("word", node, words[index]))
+        else:
+            waiting.setdefault(index, []).append(node)
 
     def next_events(self):
         events = [("deliver", number) for number in range(len(self.sent))] + [("run", 0, 0, number) for number in range(len(self.block.classes))]
@@ -165,6 +180,17 @@ def walk(chance, block, arguments):
     return events
 
 
+def beyond(chance, block, arguments):
+    """A list of events until none may follow, and one more that could follow if the journal hadn't ended."""
+    journal, events = Journal(block, arguments), []
+    while not journal.ended and journal.next_events():
+        events.append(pick(chance, journal.next_events()))
+        journal.make(events[-1])
+    journal.ended = False
+    choices = journal.next_events()
+    return events + [pick(chance, choices)] if choices else events
+
+
 def any_event(chance, block):
     """An event that may be out of place, or of something that isn't there."""
     number = pick(chance, range(len(block.classes) + 1))
@@ -195,10 +221,12 @@ def lists(name, block, arguments):
         events = walk(chance, block, arguments)
         if len(rows) < LISTS // 2:
             rows.setdefault(tuple(events), is_journal(block, arguments, events))
+    ways = WAYS + ["go on"] * (4 if any(verb == "store" for verb, _, _ in block.nodes) else 0)
     while len(rows) < LISTS:
-        events = walk(chance, block, arguments)
-        if events:
-            events = changed(chance, block, events, WAYS[len(rows) % len(WAYS)])
+        way = ways[len(rows) % len(ways)]
+        events = beyond(chance, block, arguments) if way == "go on" else walk(chance, block, arguments)
+        if events and way != "go on":
+            events = changed(chance, block, events, way)
         if len(events) <= LONGEST and not is_journal(block, arguments, events):
             rows.setdefault(tuple(events), False)
     return rows

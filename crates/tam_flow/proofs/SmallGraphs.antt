@@ -3,7 +3,7 @@ use Rattle.std.proofs.Common.{◌≡◌, ℕ, zero, suc, true, List, [], ◌∷�
 use Rattle.std.specs.Prelude.{codes}
 use Rattle.tam_graph.specs.declared.node.Node.{Node}
 use Rattle.tam_graph.specs.declared.kind.Kind.{Kind}
-use Rattle.tam_graph.specs.declared.kind.Kind.TheVariants.{Param, Const, Op as Operate, Call, Arg, Ret, Give, Alloc, Fetch}
+use Rattle.tam_graph.specs.declared.kind.Kind.TheVariants.{Param, Const, Op as Operate, Call, Arg, Ret, Give, Alloc, Fetch, Store}
 use Rattle.tam_word.specs.declared.op.Op.TheVariants.{Add}
 use Rattle.tam_graph.specs.Graphs.{Graph, AreArguments, graph_of, main_name, code_of}
 use Rattle.tam_graph.specs.Accepted.{IsAccepted}
@@ -79,6 +79,45 @@ module _ (n cells z v x y : List ℕ) where
       six : (k w : ℕ) → slice_get (6 ∷ []) k ≡ Some w → w < 2 ^ 32
       six zero w h = let e : 6 ≡ w = cc in omega (arith, e)
       six (suc k) w h = let no_word : None ≡ Some w = h in cc
+
+module _ (n cells z x v : List ℕ) where
+  -- a cell that two stores write, where the param is 0
+  abbrev pub writing_nodes : List Node
+  writing_nodes =
+      named n 0 (Const 1) ∷ named cells 1 (Alloc 0) ∷ named z 0 (Const 0) ∷ named x 0 (Param 0) ∷ nameless (Store 1 2 0) ∷ nameless (Store 1 3 2)
+      ∷ named v 0 (Fetch 1 2) ∷ nameless (Give 0 6) ∷ []
+
+  writing-written : (m : ℕ) → nat_lt m 1 ≡ true → IsWritten 1 (code_of (one_block writing_nodes) m)
+  writing-written zero h = record {
+    nodes_in_order = refl;
+    blocks_in_order = refl;
+    lines = refl;
+    depths = refl;
+    shallow = refl;
+    small_blocks = refl;
+    small = refl;
+  }
+  writing-written (suc m) h = absurd (only-zero m h)
+
+  -- is accepted
+  pub writing-accepted : IsAccepted (one_block writing_nodes)
+  writing-accepted = record { has_main = refl; few_codes = refl; written = writing-written; no_fault = refl }
+
+  -- four classes of it are a valid partition
+  pub writing-valid : are_valid (one_block writing_nodes) ((((0 ∷ 1 ∷ []) ∷ (2 ∷ 3 ∷ 5 ∷ 7 ∷ []) ∷ (4 ∷ 6 ∷ []) ∷ (8 ∷ 9 ∷ []) ∷ []) ∷ []) ∷ []) ≡ true
+  writing-valid = refl
+
+  -- and so is one class per vertex
+  pub writing-valid_singly : are_valid (one_block writing_nodes) ((single 10 ∷ []) ∷ []) ≡ true
+  writing-valid_singly = refl
+
+  -- it takes one argument, 0 or 1
+  pub writing-arguments : (w : ℕ) → w < 2 → AreArguments (one_block writing_nodes) (w ∷ [])
+  writing-arguments w small = record { one_each = refl; words = only }
+    where
+      only : (k u : ℕ) → slice_get (w ∷ []) k ≡ Some u → u < 2 ^ 32
+      only zero u h = let e : w ≡ u = cc in omega (arith, e)
+      only (suc k) u h = let no_word : None ≡ Some u = h in cc
 
 module _ (x f y z a b one c d : List ℕ) where
   -- a code whose call's first result is the second argument, and the code that it calls

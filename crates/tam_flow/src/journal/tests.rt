@@ -6,6 +6,7 @@ ghost use Rattle.tam_split.specs.GraphPartitions.{are_valid};
 ghost use Rattle.tam_flow.specs.CheckedEvents.{partitions_of};
 
 use super::random::{SUM_IN_ONE, SUM_IN_SINGLES, WAITING_IN_FOUR, WAITING_IN_SINGLES};
+use super::random::{WRITING_IN_FOUR, WRITING_IN_SINGLES};
 use crate::JournalEvent::{Deliver, Run};
 use crate::{JournalEvent, check_journal};
 use std::alloc::Global;
@@ -215,7 +216,7 @@ fn are_told(
 {
     for (letters, legal) in table {
         let events = events(alloc, letters)?;
-        assert!(rt; events.len() <= 12);
+        assert!(rt; events.len() <= 18);
         assert_eq!(rt;
             check_journal(alloc, graph, parts, args, &events)?,
             *legal,
@@ -243,4 +244,73 @@ fn random_journals_of_what_waits(rt: HostRuntime) -> Result<(), Fail> {
     are_told(&rt, alloc, &graph, &joined, &[6], &WAITING_IN_FOUR)?;
     let cut = singles(alloc, 10)?;
     are_told(&rt, alloc, &graph, &cut, &[6], &WAITING_IN_SINGLES)
+}
+
+// dg 1 / code main / n = const 1 / A:1 = alloc n / z = const 0 / x = param 0 / store A z n / store A x z / v = fetch A z / result 0 v / end
+fn writing(alloc: Global) -> Result<Accepted, Fail>
+    ensures valid { IfOk result (λ g. are_valid g ((((0 ∷ 1 ∷ []) ∷ (2 ∷ 3 ∷ 5 ∷ 7 ∷ []) ∷ (4 ∷ 6 ∷ []) ∷ (8 ∷ 9 ∷ []) ∷ []) ∷ []) ∷ []) ≡ true) }
+    ensures valid_singly { IfOk result (λ g. are_valid g ((single 10 ∷ []) ∷ []) ≡ true) }
+    ensures inside { IfOk result (λ g. AreArguments g (0 ∷ [])) }
+    ensures outside { IfOk result (λ g. AreArguments g (1 ∷ [])) }
+{
+    let main = name(b"main")?;
+    let n = name(b"n")?;
+    let cells = name(b"A")?;
+    let z = name(b"z")?;
+    let x = name(b"x")?;
+    let v = name(b"v")?;
+    let nodes = vec![in alloc;
+        node(Some(n), 0, Kind::Const { word: 1 }),
+        node(Some(cells), 1, Kind::Alloc { len: 0 }),
+        node(Some(z), 0, Kind::Const { word: 0 }),
+        node(Some(x), 0, Kind::Param { place: 0 }),
+        node(
+            None,
+            0,
+            Kind::Store {
+                array: 1,
+                index: 2,
+                a: 0
+            }
+        ),
+        node(
+            None,
+            0,
+            Kind::Store {
+                array: 1,
+                index: 3,
+                a: 2
+            }
+        ),
+        node(Some(v), 0, Kind::Fetch { array: 1, index: 2 }),
+        node(None, 0, Kind::Give { place: 0, a: 6 }),
+    ]?;
+    let owners = vec![in alloc; None]?;
+    let codes = vec![in alloc; Code::of(main, nodes, owners)]?;
+    Ok(Accepted::of(Graph::of(codes)))
+}
+
+// The classes 0 1, 2 3 5 7, 4 6 and 8 9 of the ten vertices of its block.
+fn classes_of_writing(alloc: Global) -> Result<Vec<Vec<Parts>>, Fail>
+    ensures { IfOk result (λ parts. partitions_of parts.items ≡ (((0 ∷ 1 ∷ []) ∷ (2 ∷ 3 ∷ 5 ∷ 7 ∷ []) ∷ (4 ∷ 6 ∷ []) ∷ (8 ∷ 9 ∷ []) ∷ []) ∷ []) ∷ []) }
+{
+    let mut classes = Parts::single(alloc, 10)?;
+    classes.merge(0, 1);
+    classes.merge(1, 2);
+    classes.merge(1, 3);
+    classes.merge(1, 4);
+    classes.merge(2, 3);
+    classes.merge(3, 4);
+    let parts = vec![in alloc; vec![in alloc; classes]?]?;
+    Ok(parts)
+}
+
+#[test]
+fn random_journals_of_what_is_written_twice(rt: HostRuntime) -> Result<(), Fail> {
+    let alloc = rt.alloc();
+    let graph = writing(alloc)?;
+    let joined = classes_of_writing(alloc)?;
+    are_told(&rt, alloc, &graph, &joined, &[0], &WRITING_IN_FOUR)?;
+    let cut = singles(alloc, 10)?;
+    are_told(&rt, alloc, &graph, &cut, &[1], &WRITING_IN_SINGLES)
 }

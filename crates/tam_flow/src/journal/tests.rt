@@ -5,8 +5,10 @@ ghost use Rattle.tam_split.specs.Partitions.{single};
 ghost use Rattle.tam_split.specs.GraphPartitions.{are_valid};
 ghost use Rattle.tam_flow.specs.CheckedEvents.{partitions_of};
 
-use super::random::{SUM_IN_ONE, SUM_IN_SINGLES, WAITING_IN_FOUR, WAITING_IN_SINGLES};
-use super::random::{WRITING_IN_FOUR, WRITING_IN_SINGLES};
+use super::random::{
+    SUM_IN_ONE, SUM_IN_SINGLES, WAITING_IN_FOUR, WAITING_IN_SINGLES, WRITING_IN_FOUR,
+    WRITING_IN_SINGLES,
+};
 use crate::JournalEvent::{Deliver, Run};
 use crate::{JournalEvent, check_journal};
 use std::alloc::Global;

@@ -41,6 +41,7 @@ const USAGE: u8 = 2;
 
 const NO_MEMORY: u8 = 11;
 
+#[derive(Clone, Copy)]
 enum Loop {
     Count,
     Copy,

@@ -16,6 +16,7 @@ mod tests;
 mod top;
 
 use std::env;
+use std::io::ErrorKind;
 use std::process::ExitCode;
 use tam_edge::{HostFiles, HostSink};
 use top::tam;
@@ -27,8 +28,10 @@ const NO_MEMORY: u8 = 11;
 
 fn main(rt: HostRuntime) -> ExitCode {
     let alloc = rt.alloc();
-    let Ok(args) = env::args(&rt) else {
-        return ExitCode::from(NO_WORDS);
+    let args = match env::args(&rt) {
+        Ok(args) => args,
+        Err(error) if error.kind() == ErrorKind::OutOfMemory => return ExitCode::from(NO_MEMORY),
+        Err(_) => return ExitCode::from(NO_WORDS),
     };
     let mut words = Vec::new(alloc);
     for word in args.skip(1) {

@@ -277,6 +277,31 @@ mod tests {
         Ok(())
     }
 
+    // The divisions at the edges, and `ebreak` behind them.
+    #[test]
+    fn a_break_tells_where_it_stands(rt: HostRuntime) -> Result<(), Fail> {
+        let words = [
+            0x8000_02b7,
+            0xfff0_0313,
+            0x0262_c3b3,
+            0x0262_e433,
+            0x0202_c4b3,
+            0x0202_e533,
+            0x0010_0073,
+        ];
+        let mut rv = machine(rt.alloc(), &words)?;
+        for _ in 0..6 {
+            assert_eq!(rt; rv.step(), RvStep::Done);
+        }
+        let end = RvStep::Trap {
+            pc: 24,
+            cause: TrapCause::Break,
+        };
+        assert_eq!(rt; rv.step(), end);
+        assert_eq!(rt; (rv.pc(), rv.steps()), (24, 6));
+        Ok(())
+    }
+
     // Each alone at address 0, in a memory of 36 bytes.
     #[test]
     fn a_trap_changes_nothing(rt: HostRuntime) -> Result<(), Fail> {

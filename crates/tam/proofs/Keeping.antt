@@ -11,10 +11,10 @@ use Rattle.tam_input.specs.Refusing.{Files, refusal_status, refusal_line, read_f
 use Rattle.tam_input.specs.Inputs.{Request, KeepsNamed, IsFault, ReadsOut, Names}
 use Rattle.tam.specs.Answers.{AnswerTo, not_graph, not_accepted, listed, wrong_count, ran, ran_out, not_assembled, assembled, wanted, run_of, status_of}
 use Rattle.tam.specs.Headline.{IsDone, IsSaid, KeepsFiles}
-use Rattle.tam.proofs.Running.{not-three}
+use Rattle.tam.proofs.Running.{not-three, most-status}
 
 -- an answer isn't a read fault
-no-fault : (ask : Request) (bytes : List ℕ) (status : ℕ) (text : List ℕ) → AnswerTo ask bytes status text → status ≢ 3
+pub no-fault : (ask : Request) (bytes : List ℕ) (status : ℕ) (text : List ℕ) → AnswerTo ask bytes status text → status ≢ 3
 no-fault ask bytes status text (not_graph m e) z = absurd (omega (arith, z))
 no-fault ask bytes status text (not_accepted m r e) z = absurd (omega (arith, z))
 no-fault ask bytes status text (listed s e) z = absurd (omega (arith, z))
@@ -24,6 +24,18 @@ no-fault ask bytes status text (ran_out front rest a is) z = absurd (omega (arit
 no-fault ask bytes status text (not_assembled m e) z = absurd (omega (arith, z))
 no-fault ask bytes status text (assembled m r) z = absurd (omega (arith, z))
 no-fault ask bytes status text wanted z = absurd (omega (arith, z))
+
+-- and its status is one of the program's
+pub most : (ask : Request) (bytes : List ℕ) (status : ℕ) (text : List ℕ) → AnswerTo ask bytes status text → status ≤ 12
+most ask bytes status text (not_graph m e) = omega arith
+most ask bytes status text (not_accepted m r e) = omega arith
+most ask bytes status text (listed s e) = omega arith
+most ask bytes status text (wrong_count m s d) = omega arith
+most ask bytes status text (ran a) = most-status _ _
+most ask bytes status text (ran_out front rest a is) = omega arith
+most ask bytes status text (not_assembled m e) = omega arith
+most ask bytes status text (assembled m r) = omega arith
+most ask bytes status text wanted = omega arith
 
 module _ (words : Asked) (left left_new : Files) (faults faults_new : List ℕ → ℕ) (old new : Option (List ℕ)) (status : ℕ) where
   -- of a call that answers the bytes of a file

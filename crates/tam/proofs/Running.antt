@@ -1,5 +1,5 @@
 -- What was done once a graph was run.
-use Rattle.std.proofs.Common.{◌≡◌, ◌≢◌, ℕ, ◌<◌, ◌^◌, suc, List, [], ◌∷◌, ◌++◌, length, refl, sym, ap, subst, ◌∙◌, slice_get, slice_index_or, Fits, w32, arith, append_assoc}
+use Rattle.std.proofs.Common.{◌≡◌, ◌≢◌, ℕ, ◌<◌, ◌≤◌, ◌^◌, suc, List, [], ◌∷◌, ◌++◌, length, refl, sym, ap, subst, ◌∙◌, slice_get, slice_index_or, Fits, w32, arith, append_assoc}
 use Rattle.std.specs.Prelude.{Option, Some, None, IfSome}
 use Rattle.std.specs.List.{flat_map}
 use Rattle.std.specs.Io.KnownBytes.{Appends}
@@ -58,6 +58,18 @@ not-eleven (Cells_full u l) ks e = absurd (omega (arith, e))
 not-eleven (Budget_spent n) ks e = absurd (omega (arith, e))
 not-eleven (Wild what n) ks e = absurd (omega (arith, e))
 not-eleven (Trap pc cause) ks e = absurd (omega (arith, e))
+
+-- the greatest status of an end
+pub most-status : (how : End) (ks : List ℕ) → status_by how ks ≤ 12
+most-status Quiet [] = omega arith
+most-status Quiet (k ∷ ks) = omega arith
+most-status (Double_write s t) ks = omega arith
+most-status (Out_of_range s i l) ks = omega arith
+most-status (Frames_full n) ks = omega arith
+most-status (Cells_full u l) ks = omega arith
+most-status (Budget_spent n) ks = omega arith
+most-status (Wild what n) ks = omega arith
+most-status (Trap pc cause) ks = omega arith
 
 -- the status of a quiet run
 pub quiet-status : (how : End) (ks : List ℕ) (missing code : ℕ) → how ≡ Quiet → missing ≡ length ks → (missing ≡ 0 → code ≡ 0) → (missing ≢ 0 → code ≡ 4)

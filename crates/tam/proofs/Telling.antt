@@ -28,10 +28,10 @@ use Rattle.tam.specs.Headline.{AsksRun}
 use Rattle.tam.proofs.Asking.{not-both, job-once, told-once, ok-not-err, ordered-file, order-once, not-untold}
 
 -- what may be answered of the run of a graph
-pub data Told (ask : Request) (g : Graph) : ℕ → List ℕ → Type 0 where
-  whole : Told ask g (status_of (run_of ask g)) (text_of (run_of ask g))
-  fault : Told ask g 3 read_fault_line
-  ended : (front rest : List (ℕ × ℕ)) → (run_of ask g).printed ≡ front ++ rest → Told ask g 11 (flat_map result_line front ++ no_memory_line)
+pub data Told (ask : Request) (g : Graph) (Failed : Type 0) : ℕ → List ℕ → Type 0 where
+  whole : Told ask g Failed (status_of (run_of ask g)) (text_of (run_of ask g))
+  fault : Failed → Told ask g Failed 3 read_fault_line
+  ended : (front rest : List (ℕ × ℕ)) → (run_of ask g).printed ≡ front ++ rest → Told ask g Failed 11 (flat_map result_line front ++ no_memory_line)
 
 -- bytes read as one graph
 pub reads-once : (bytes : List ℕ) (g h : Graph) → Reads bytes g → Reads bytes h → h ≡ g
@@ -62,25 +62,25 @@ no-listing m g text e is = nothing (ap (λ n. listing n g) (sym e) ∙ is)
 no-assembly : (m : Mode) → m ≡ mode.Graph → m ≡ mode.Assemble → ⊥
 no-assembly m e f = cc
 
-module _ (ask : Request) (bytes : List ℕ) (g : Graph) (asks : AsksGraph ask bytes g) where
+module _ (ask : Request) (bytes : List ℕ) (g : Graph) (Failed : Type 0) (asks : AsksGraph ask bytes g) where
   same-graph : (h : Graph) → Spells bytes h → h ≡ g
   same-graph h s = reads-once bytes g h asks.spelled.reads s.reads
 
   -- of the bytes
-  pub told-of : (status : ℕ) (text : List ℕ) → AnswerTo ask bytes status text → Told ask g status text
+  pub told-of : (status : ℕ) (text : List ℕ) → AnswerTo ask bytes status text → Told ask g Failed status text
   told-of status text (not_graph {n = n} {cause = c} m e) = absurd (no-fault bytes g n c asks.spelled.reads e)
   told-of status text (not_accepted {g = h} {place = p} {cause = c} m r e) =
       absurd (not-refused g p c asks.spelled.accepted (subst (λ k. first_refused k ≡ Some (p, c)) (reads-once bytes g h asks.spelled.reads r) e))
   told-of status text (listed {g = h} {text = t} s e) = absurd (no-listing ask.mode h t asks.mode e)
   told-of status text (wrong_count {g = h} m s differ) =
       absurd (differ (subst (λ k. length ask.args ≡ params_of (code_of k k.main)) (sym (same-graph h s)) asks.one_each))
-  told-of status text (ran {g = h} a) = subst (λ k. Told ask g (status_of (run_of ask k)) (text_of (run_of ask k))) (sym (same-graph h a.spelled)) whole
+  told-of status text (ran {g = h} a) = subst (λ k. Told ask g Failed (status_of (run_of ask k)) (text_of (run_of ask k))) (sym (same-graph h a.spelled)) whole
   told-of status text (ran_out {g = h} front rest a is) = ended front rest (subst (λ k. (run_of ask k).printed ≡ front ++ rest) (same-graph h a.spelled) is)
   told-of status text (not_assembled m e) = absurd (no-assembly ask.mode asks.mode m)
   told-of status text (assembled m r) = absurd (no-assembly ask.mode asks.mode m)
   told-of status text out = ended [] (run_of ask g).printed refl
 
-module _ (words : Asked) (left : Files) (g : Graph) (ask : Request) (asks : AsksRun words left g ask) where
+module _ (words : Asked) (left : Files) (g : Graph) (ask : Request) (Failed : Type 0) (asks : AsksRun words left g ask) where
   same-job : (job : JobParts) → words ≡ Job job → job ≡ asks.job
   same-job job e = job-once job asks.job (sym e ∙ asks.asked)
 
@@ -98,32 +98,32 @@ module _ (words : Asked) (left : Files) (g : Graph) (ask : Request) (asks : Asks
   same-bytes job b e told = told-once b asks.bytes (sym told ∙ ap (λ j. input_of j left) (same-job job e) ∙ asks.content.told)
 
   -- before the file is looked into
-  told-early : (r : Refusal) → Refuses words left r → Told ask g (refusal_status r) (refusal_line r)
-  told-early r (usage {cause = c} e) = absurd (not-both asks.job c (sym asks.asked ∙ e))
-  told-early r (not_read e) = fault
-  told-early r (long_order {job = j} {file = n} {bytes = b} e is told more) =
+  told-early : (r : Refusal) → Refuses words left r → (r ≡ refusal.NotRead → Failed) → Told ask g Failed (refusal_status r) (refusal_line r)
+  told-early r (usage {cause = c} e) failed = absurd (not-both asks.job c (sym asks.asked ∙ e))
+  told-early r (not_read e) failed = fault (failed refl)
+  told-early r (long_order {job = j} {file = n} {bytes = b} e is told more) failed =
       let f = file j e n is in
       let same : b ≡ f.0 = told-once b f.0 (sym told ∙ f.1) in
       let few : length b ≤ most_order_bytes = subst (λ x. length x ≤ most_order_bytes) (sym same) f.2 in
       absurd (omega (arith, more, few))
-  told-early r (no_order {job = j} {file = n} {bytes = b} {item = i} e is l none) =
+  told-early r (no_order {job = j} {file = n} {bytes = b} {item = i} e is l none) failed =
       let f = file j e n is in
       let same : b ≡ f.0 = told-once b f.0 (sym l.told ∙ f.1) in
       absurd (ok-not-err f.3.0 i (sym f.3.1 ∙ ap order_of (sym same) ∙ none))
-  told-early r (too_long {job = j} {bytes = b} e is told more) =
+  told-early r (too_long {job = j} {bytes = b} e is told more) failed =
       let same = same-bytes j b e told in
       let few : length b ≤ most_bytes j.mode =
       subst (λ x. length x ≤ most_bytes j.mode) (sym same) (subst (λ k. length asks.bytes ≤ most_bytes k.mode) (sym (same-job j e)) asks.content.few) in
       absurd (omega (arith, more, few))
-  told-early r wanted = ended [] (run_of ask g).printed refl
-  told-early r (untold {job = j} e u) = absurd (seen j e u)
+  told-early r wanted failed = ended [] (run_of ask g).printed refl
+  told-early r (untold {job = j} e u) failed = absurd (seen j e u)
 
   -- whatever is answered is one of these
-  pub told : (status : ℕ) (text : List ℕ) → Answer words left status text → Told ask g status text
-  told status text (refused {refusal = r} is) = told-early r is
+  pub told : (status : ℕ) (text : List ℕ) → Answer words left Failed status text → Told ask g Failed status text
+  told status text (refused {refusal = r} is failed) = told-early r is failed
   told status text (answered {job = j} {order = o} {bytes = b} e is l a) =
       let order : o ≡ asks.order = order-once asks.job left o asks.order (subst (λ k. IsOrder k left o) (same-job j e) is) asks.ordered in
       let request : request_of j o ≡ ask = ap (λ k. request_of k o) (same-job j e) ∙ ap (request_of asks.job) order ∙ sym asks.same in
-      told-of ask asks.bytes g asks.graph status text
+      told-of ask asks.bytes g Failed asks.graph status text
       (subst (λ x. AnswerTo ask x status text) (same-bytes j b e l.told) (subst (λ q. AnswerTo q b status text) request a))
-  told status text (unseen {job = j} e u) = absurd (seen j e u)
+  told status text (unseen {job = j} e u most other) = absurd (seen j e u)

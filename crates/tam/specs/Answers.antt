@@ -1,6 +1,6 @@
 -- What the program writes, and with which status, by what the words ask for and by what is left of the files.
 -- The rule in words: docs/FORMATS.md, "Command line".
-use Rattle.std.specs.Prelude.{ℕ, ◌≡◌, ◌≢◌, Bool, true, false, List, [], ◌∷◌, ◌++◌, flat_map, length, take, Option, Some, None}
+use Rattle.std.specs.Prelude.{ℕ, ◌≡◌, ◌≢◌, ◌≤◌, Bool, true, false, List, [], ◌∷◌, ◌++◌, flat_map, length, take, Option, Some, None}
 use Rattle.tam_graph.specs.declared.place.Place.{Place}
 use Rattle.tam_graph.specs.declared.check_cause.CheckCause.{CheckCause}
 use Rattle.tam_graph.specs.Graphs.{Graph, code_of, params_of}
@@ -21,6 +21,7 @@ use Rattle.tam_words.specs.declared.usage_cause.UsageCause.TheVariants.{ArgsCoun
 use Rattle.tam_words.specs.Jobs.{Asked, Job, JobParts}
 use Rattle.tam_list.specs.Listings.{check_text, sets_text, parts_text}
 use Rattle.tam_input.specs.declared.refusal.Refusal.{Refusal}
+use Rattle.tam_input.specs.declared.refusal.Refusal.TheVariants.{NotRead}
 use Rattle.tam_input.specs.Refusing.{Files, IsLeft, IsOrder, IsUntold, Refuses, input_of, most_bytes, usage_line, no_memory_line, refusal_status, refusal_line}
 use Rattle.tam_input.specs.Inputs.{Request, request_of}
 use Rattle.rv_inst.specs.Images.{Image}
@@ -104,12 +105,13 @@ pub data AnswerTo (ask : Request) (bytes : List ℕ) : ℕ → List ℕ → Type
   -- or memory is wanted before a line was written
   wanted : AnswerTo ask bytes 11 no_memory_line
 
--- by what the words ask for and by what is left of the files, the status and the text that are answered
-pub data Answer (ask : Asked) (left : Files) : ℕ → List ℕ → Type 0 where
-  -- a refusal before the job's file is looked into
-  refused : {refusal : Refusal} → Refuses ask left refusal → Answer ask left (refusal_status refusal) (refusal_line refusal)
+-- by what the words ask for, by what is left of the files and by whether a read failed, the status and the text that are answered
+pub data Answer (ask : Asked) (left : Files) (ReadFailed : Type 0) : ℕ → List ℕ → Type 0 where
+  -- a refusal before the job's file is looked into; of a read that failed only where one did
+  refused : {refusal : Refusal} → Refuses ask left refusal → (refusal ≡ NotRead → ReadFailed)
+      → Answer ask left ReadFailed (refusal_status refusal) (refusal_line refusal)
   -- the job's file holds these bytes, which are answered
   answered : {job : JobParts} {order : List Item} {bytes text : List ℕ} {status : ℕ} → ask ≡ Job job → IsOrder job left order
-      → IsLeft (input_of job left) (most_bytes job.mode) bytes → AnswerTo (request_of job order) bytes status text → Answer ask left status text
-  -- of a file whose content isn't told nothing more is said
-  unseen : {job : JobParts} {text : List ℕ} {status : ℕ} → ask ≡ Job job → IsUntold job left → Answer ask left status text
+      → IsLeft (input_of job left) (most_bytes job.mode) bytes → AnswerTo (request_of job order) bytes status text → Answer ask left ReadFailed status text
+  -- of a file whose content isn't told no more is said than that the status is one of the program's, and a read fault's only where a read failed
+  unseen : {job : JobParts} {text : List ℕ} {status : ℕ} → ask ≡ Job job → IsUntold job left → status ≤ 12 → status ≢ 3 → Answer ask left ReadFailed status text

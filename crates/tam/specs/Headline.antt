@@ -37,12 +37,16 @@ pub record IsDone (Says : ℕ → List ℕ → Type 0) (status : ℕ) (old new :
 
 -- ---- files
 
+-- a read of a file that the words name failed: its count rose, or stands at its last value
+abbrev pub ReadFailed : Asked → (List ℕ → ℕ) → (List ℕ → ℕ) → Type 0
+ReadFailed ask faults faults_new = (file : List ℕ) × Names ask file × Rose (faults file) (faults_new file)
+
 -- Nothing changes of a file that the words don't name. A read fault is answered only where the count of one that they name rose, or stands at its
 -- last value, and where a count changed it is answered, or a front of its line before a write fault. What is run or listed was read to its end.
 pub record KeepsFiles (ask : Asked) (status : ℕ) (left left_new : Files) (faults faults_new : List ℕ → ℕ) (old new : Option (List ℕ)) : Type 0 where
   pub other_left : (file : List ℕ) → ¬ Names ask file → left_new file ≡ left file
   pub other_faults : (file : List ℕ) → ¬ Names ask file → faults_new file ≡ faults file
-  pub read_fault : status ≡ 3 → (file : List ℕ) × Names ask file × Rose (faults file) (faults_new file)
+  pub read_fault : status ≡ 3 → ReadFailed ask faults faults_new
   pub fault_told : (file : List ℕ) → faults_new file ≢ faults file → (status ≡ 3) ⊎ ((status ≡ 10) × AppendsFront old new read_fault_line)
   pub read_out : (file : List ℕ) → Names ask file → (status ≡ 0) ⊎ ((4 ≤ status) × (status ≤ 9)) → IsReadOut (left file) (left_new file)
 
@@ -66,12 +70,13 @@ RanOut Taken r = (front rest : List (ℕ × ℕ)) × (r.printed ≡ front ++ res
 -- Of a run that is asked for: each line is a result of the firing rules, no place has two lines, a quiet run has exactly the results, a result is
 -- missing exactly where no number of unfoldings gives it, and every other end has its cause in the rules. Where the limits leave room for what the rules
 -- give, the run is quiet. Under the status of its end the sink took exactly its text. Else memory was wanted, behind the lines of its first
--- results, or a read failed, or a write, and then the sink took a front of one of these.
-pub record IsRightRun (g : Graph) (ask : Request) (status : ℕ) (old new : Option (List ℕ)) : Type 0 where
+-- results, or a read failed, or a write, and then the sink took a front of one of these: that of a read fault only where a read failed.
+pub record IsRightRun (g : Graph) (ask : Request) (Failed : Type 0) (status : ℕ) (old new : Option (List ℕ)) : Type 0 where
   pub right : IsRight g ask.args ask.limits (run_of ask g)
   pub complete : HasRoom g ask.args ask.limits → (run_of ask g).how ≡ Quiet
   pub whole : status ≡ status_of (run_of ask g) → Appends old new (text_of (run_of ask g))
   pub first_lines : status ≡ 11 → RanOut (Appends old new) (run_of ask g)
-  pub fault : status ≡ 3 → Appends old new read_fault_line
-  pub front : status ≡ 10 → AppendsFront old new (text_of (run_of ask g)) ⊎ (RanOut (AppendsFront old new) (run_of ask g) ⊎ AppendsFront old new read_fault_line)
+  pub fault : status ≡ 3 → Failed × Appends old new read_fault_line
+  pub front : status ≡ 10 → AppendsFront old new (text_of (run_of ask g))
+      ⊎ (RanOut (AppendsFront old new) (run_of ask g) ⊎ (Failed × AppendsFront old new read_fault_line))
   pub no_other : (status ≡ status_of (run_of ask g)) ⊎ ((status ≡ 3) ⊎ ((status ≡ 10) ⊎ (status ≡ 11)))

@@ -3,7 +3,7 @@ ghost use Rattle.std.specs.Prelude.{ℕ, List};
 ghost use Rattle.tam_graph.specs.Graphs.{Graph};
 ghost use Rattle.tam_input.specs.Inputs.{Request};
 ghost use Rattle.tam.specs.Answers.{Answer};
-ghost use Rattle.tam.specs.Headline.{ask_of, AsksRun, IsDone, IsRightRun, KeepsFiles};
+ghost use Rattle.tam.specs.Headline.{ask_of, AsksRun, IsDone, IsRightRun, KeepsFiles, ReadFailed};
 
 use crate::answer::answer;
 use crate::say::say;
@@ -20,10 +20,11 @@ pub fn tam<F: Files, K: Sink>(alloc: Global, words: &[String], files: &mut F, ou
     // Whatever run the words ask for, of whatever accepted graph the bytes of the file spell, on whatever arguments and under whatever order of
     // delivery: each line is a result of the firing rules, a quiet run has exactly the results, each once, and every other end has its cause.
     ensures headline { (g : Graph) (ask : Request) → AsksRun (ask_of words.now) (F.left files.old) g ask
-        → IsRightRun g ask result.code (K.taken out.old) (K.taken out.new) }
+        → IsRightRun g ask (ReadFailed (ask_of words.now) (F.faults files.old) (F.faults files.new)) result.code (K.taken out.old) (K.taken out.new) }
 
-    // By what the words ask for and what is left of the files, the status that is answered and the text that was written, or a front of it.
-    ensures done { IsDone (Answer (ask_of words.now) (F.left files.old)) result.code
+    // By what the words ask for, what is left of the files and whether a read failed, the status that is answered and the text that was written, or a
+    // front of it.
+    ensures done { IsDone (Answer (ask_of words.now) (F.left files.old) (ReadFailed (ask_of words.now) (F.faults files.old) (F.faults files.new))) result.code
         (K.taken out.old) (K.taken out.new) (K.faults out.old) (K.faults out.new) }
 
     // What isn't asked for stays as it was, and a read fault is told by the count of the file that failed.

@@ -131,6 +131,23 @@ mod tests {
         Ok(())
     }
 
+    // A byte more than the count of words asks for, and a short file with another first byte.
+    #[test]
+    fn the_size_comes_first(rt: HostRuntime) -> Result<(), Fail> {
+        let size = ImageError::Bad {
+            at: 8,
+            cause: ImageCause::Size,
+        };
+        let mut longer = EBREAK.to_vec(rt.alloc())?;
+        longer.push(0)?;
+        let fault = read_image(rt.alloc(), &longer).err();
+        assert_eq!(rt; fault, Some(size), "with a byte more");
+        let short = [0x55; 23];
+        let fault = read_image(rt.alloc(), &short).err();
+        assert_eq!(rt; fault, Some(size), "of 23 bytes");
+        Ok(())
+    }
+
     // A byte of the file is changed; the first fault is told.
     #[test]
     fn the_first_fault_is_told(rt: HostRuntime) -> Result<(), Fail> {

@@ -1,64 +1,100 @@
--- What words ask for is one job with one order list, and its file has one content.
+-- What words ask for is one job with one order list and one text.
 use Rattle.std.proofs.Common.{◌≡◌, ℕ, ◌≤◌, ◌<◌, ◌⊎◌, inl, inr, ⊎_elim, Bool, true, false, List, [], length, refl, sym, ap, subst, ◌∙◌, arith}
 use Rattle.std.specs.Prelude.{Option, Some, None, Result, Ok, Err}
-use Rattle.tam_word.specs.Lists.{same_bytes}
 use Rattle.tam_msgs.specs.declared.item.Item.{Item}
 use Rattle.tam_msgs.specs.Orders.{order_of}
 use Rattle.tam_words.specs.declared.usage_cause.UsageCause.{UsageCause}
 use Rattle.tam_words.specs.Jobs.{Asked, Job, Usage, JobParts}
-use Rattle.tam_input.specs.Refusing.{Files, IsLeft, IsOrder, from_words, from_file, IsUntold, left_behind, none_left, input_of, most_order_bytes}
+use Rattle.tam_input.specs.declared.refusal.Refusal.{Refusal}
+use Rattle.tam_input.specs.declared.refusal.Refusal.TheVariants as refusal
+use Rattle.tam_input.specs.declared.ending.Ending.{Ending}
+use Rattle.tam_input.specs.declared.ending.Ending.TheVariants.{ReadFault}
+use Rattle.tam_input.specs.Told.{Told, Contents}
+use Rattle.tam_input.specs.Refusing.{IsOrder, from_words, from_file, Refuses, usage, order_failed, long_order, no_order, text_failed, too_long, wanted}
+use Rattle.tam_input.specs.Refusing.{text_file, text_of, bytes_of, most_bytes, most_order_bytes, refusal_ending, refusal_line, read_fault_line, no_memory_line}
+use Rattle.tam_input.specs.Inputs.{Request, request_of, IsInput, Names}
+use Rattle.tam.specs.Answers.{Answer, AnswerTo, refused, answered, wanted as out}
+use Rattle.tam.specs.Headline.{AsksText, ReadFailed}
 
 -- a job is no fault
-pub not-both : (job : JobParts) (cause : UsageCause) → Job job ≡ Usage cause → ⊥
+not-both : (job : JobParts) (cause : UsageCause) → Job job ≡ Usage cause → ⊥
 not-both job cause e = cc
 
 -- one job is asked for
-pub job-once : (a b : JobParts) → Job a ≡ Job b → a ≡ b
+job-once : (a b : JobParts) → Job a ≡ Job b → a ≡ b
 job-once a b e = cc
 
--- told bytes are the same bytes
-pub told-once : (a b : List ℕ) → ◌≡◌ {A = Option (List ℕ)} (Some a) (Some b) → a ≡ b
-told-once a b e = cc
+-- one name is one name
+name-once : (a b : List ℕ) → ◌≡◌ {A = Option (List ℕ)} (Some a) (Some b) → a ≡ b
+name-once a b e = cc
 
--- told bytes are told
-pub none-some : (b : List ℕ) → ◌≡◌ {A = Option (List ℕ)} None (Some b) → ⊥
+-- a name is there
+none-some : (b : List ℕ) → ◌≡◌ {A = Option (List ℕ)} None (Some b) → ⊥
 none-some b e = cc
 
+-- one list is one list
 ok-once : (a b : List Item) → ◌≡◌ {A = Result (List Item) ℕ} (Ok a) (Ok b) → a ≡ b
 ok-once a b e = cc
 
-pub ok-not-err : (a : List Item) (n : ℕ) → ◌≡◌ {A = Result (List Item) ℕ} (Ok a) (Err n) → ⊥
+-- and no fault
+ok-not-err : (a : List Item) (n : ℕ) → ◌≡◌ {A = Result (List Item) ℕ} (Ok a) (Err n) → ⊥
 ok-not-err a n e = cc
 
-module _ (job : JobParts) (left : Files) where
-  -- the order file of a job that has an order list is told, not too long, and holds one
-  pub ordered-file : (order : List Item) → IsOrder job left order → (file : List ℕ) → job.order_file ≡ Some file
-      → (bytes : List ℕ) × (left file ≡ Some bytes) × (length bytes ≤ most_order_bytes) × ((items : List Item) × (order_of bytes ≡ Ok items))
+module _ (job : JobParts) (contents : Contents) where
+  -- the order file of a job that has an order list isn't too long, and holds one
+  ordered-file : (order : List Item) → IsOrder job contents order → (file : List ℕ) → job.order_file ≡ Some file
+      → (length (contents file) ≤ most_order_bytes) × ((items : List Item) × (order_of (contents file) ≡ Ok items))
   ordered-file order (from_words none) file is = absurd (none-some file (sym none ∙ is))
-  ordered-file order (from_file {file = f} {bytes = b} {order = o} some l e) file is =
-      (b, subst (λ n. left n ≡ Some b) (told-once f file (sym some ∙ is)) l.told, l.few, (o, e))
+  ordered-file order (from_file {file = f} {order = o} some few e) file is =
+      let same : f ≡ file = name-once f file (sym some ∙ is) in
+      (subst (λ n. length (contents n) ≤ most_order_bytes) same few, (o, subst (λ n. order_of (contents n) ≡ Ok o) same e))
 
   -- a job has one order list
-  pub order-once : (a b : List Item) → IsOrder job left a → IsOrder job left b → a ≡ b
+  order-once : (a b : List Item) → IsOrder job contents a → IsOrder job contents b → a ≡ b
   order-once a b (from_words none) (from_words other) = refl
   order-once a b (from_words none) (from_file {file = f} some l e) = absurd (none-some f (sym none ∙ some))
   order-once a b (from_file {file = f} some l e) (from_words none) = absurd (none-some f (sym none ∙ some))
-  order-once a b (from_file {file = f} {bytes = x} some l e) (from_file {file = g} {bytes = y} more m h) =
-      let same : f ≡ g = told-once f g (sym some ∙ more) in
-      let bytes : x ≡ y = told-once x y (sym l.told ∙ ap left same ∙ m.told) in
-      ok-once a b (sym e ∙ ap order_of bytes ∙ h)
+  order-once a b (from_file {file = f} some l e) (from_file {file = g} more m h) =
+      ok-once a b (sym e ∙ ap (λ n. order_of (contents n)) (name-once f g (sym some ∙ more)) ∙ h)
 
-  -- of a name of which nothing is told nothing is told behind the order file
-  none-behind : (o : Option (List ℕ)) (name : List ℕ) → left name ≡ None → left_behind o left name ≡ None
-  none-behind None name e = e
-  none-behind (Some file) name e = go (same_bytes file name) (left name) e
+module _ (words : Asked) (contents : Contents) (before now : Told) (ask : Request) (bytes : List ℕ) (asks : AsksText words contents ask bytes) where
+  same-job : (job : JobParts) → words ≡ Job job → job ≡ asks.job
+  same-job job e = job-once job asks.job (sym e ∙ asks.asked)
+
+  -- the order file, where one is named
+  file : (job : JobParts) → words ≡ Job job → (name : List ℕ) → job.order_file ≡ Some name
+      → (length (contents name) ≤ most_order_bytes) × ((items : List Item) × (order_of (contents name) ≡ Ok items))
+  file job e name is = ordered-file asks.job contents asks.order asks.ordered name (subst (λ j. j.order_file ≡ Some name) (same-job job e) is)
+
+  -- the bytes of the file whose text is read
+  read : (job : JobParts) → words ≡ Job job → (name : List ℕ) → text_file job ≡ Some name → length (contents name) ≤ most_bytes job.mode
+  read job e name is =
+      let text : contents name ≡ bytes = ap (bytes_of contents) (sym is) ∙ ap (λ j. text_of j contents) (same-job job e) ∙ asks.text in
+      subst (λ b. length b ≤ most_bytes job.mode) (sym text) (subst (λ j. length bytes ≤ most_bytes j.mode) (sym (same-job job e)) asks.few)
+
+  -- before its text is looked into, nothing is told but that a read failed, or that memory was wanted
+  early : (r : Refusal) → Refuses words contents before now r → ((r ≡ refusal.NotRead) × ReadFailed words before now) ⊎ (r ≡ refusal.NoMemory)
+  early r (usage {cause = c} e ends) = absurd (not-both asks.job c (sym asks.asked ∙ e))
+  early r (order_failed {job = j} {file = n} e is rose ends) = inl (refl, (n, subst (λ w. Names w n) (sym e) (inl is), rose))
+  early r (long_order {job = j} {file = n} e is more ends) = let f = file j e n is in let few = f.0 in absurd (omega (arith, more, few))
+  early r (no_order {job = j} {file = n} {item = i} e is few none ends) = let f = file j e n is in absurd (ok-not-err f.1.0 i (sym f.1.1 ∙ none))
+  early r (text_failed {job = j} {file = n} e o is rose ends) = inl (refl, (n, subst (λ w. Names w n) (sym e) (inr is), rose))
+  early r (too_long {job = j} {file = n} e o is more ends) = let few = read j e n is in absurd (omega (arith, more, few))
+  early r (wanted n few ends) = inr refl
+
+  -- whatever is answered is an answer to the bytes, or that a read failed
+  pub told-input : (end : Ending) (text : List ℕ) → Answer words contents before now end text
+      → AnswerTo ask bytes end text ⊎ ((end ≡ ReadFault) × (text ≡ read_fault_line) × ReadFailed words before now)
+  told-input end text (refused {refusal = r} is) = go (early r is)
     where
-      go : (t : Bool) (l : Option (List ℕ)) → l ≡ None → ◌≡◌ {A = Option (List ℕ)} (elim t [ true ↦ none_left l | false ↦ l ]) None
-      go true None e = refl
-      go true (Some b) e = absurd (none-some b (sym e))
-      go false l e = e
-
-  -- a job with an order list and a told file has no untold one
-  pub not-untold : (order : List Item) (bytes : List ℕ) → IsOrder job left order → input_of job left ≡ Some bytes → IsUntold job left → ⊥
-  not-untold order bytes is told (inl u) = let f = ordered-file order is u.0 u.1 in none-some f.0 (sym u.2 ∙ f.1)
-  not-untold order bytes is told (inr none) = none-some bytes (sym (none-behind job.order_file job.name none) ∙ told)
+      go : ((r ≡ refusal.NotRead) × ReadFailed words before now) ⊎ (r ≡ refusal.NoMemory)
+          → AnswerTo ask bytes (refusal_ending r) (refusal_line r)
+          ⊎ ((refusal_ending r ≡ ReadFault) × (refusal_line r ≡ read_fault_line) × ReadFailed words before now)
+      go (inl f) = inr (ap refusal_ending f.0, ap refusal_line f.0, f.1)
+      go (inr e) = inl (subst (λ q. AnswerTo ask bytes (refusal_ending q) (refusal_line q)) (sym e) out)
+  told-input end text (answered {request = q} {bytes = b} input a) =
+      let job = same-job input.job input.asked in
+      let order : input.order ≡ asks.order = order-once asks.job contents input.order asks.order (subst (λ k. IsOrder k contents input.order) job input.ordered) asks.ordered in
+      let request : q ≡ ask = input.same ∙ ap (λ k. request_of k input.order) job ∙ ap (request_of asks.job) order ∙ sym asks.same in
+      let same : b ≡ bytes = sym input.text ∙ ap (λ j. text_of j contents) job ∙ asks.text in
+      inl (subst (λ x. AnswerTo ask x end text) same (subst (λ k. AnswerTo k b end text) request a))

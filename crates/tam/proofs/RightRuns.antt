@@ -1,78 +1,154 @@
--- Runs that are asked for are right, by the law of runs and by what was answered.
-use Rattle.std.proofs.Common.{◌≡◌, ◌≢◌, ◌⊎◌, inl, inr, ⊎_elim, ◌<◌, ◌≤◌, ◌^◌, ℕ, Bool, true, false, ◌==◌, List, [], ◌∷◌, ◌++◌, refl, sym, ◌∙◌, ap, subst, length, slice_get, arith}
-use Rattle.std.specs.Prelude.{Option, None, Some}
+-- Runs that are asked for are right, by the law of runs and by what was answered; other inputs are answered.
+use Rattle.std.proofs.Common.{◌≡◌, ◌≢◌, ◌⊎◌, inl, inr, ⊎_elim, ◌<◌, ◌^◌, ℕ, false, List, [], ◌++◌, refl, sym, ◌∙◌, ap, subst, slice_get}
+use Rattle.std.specs.Prelude.{Option, Some}
 use Rattle.std.specs.List.{flat_map}
 use Rattle.std.specs.Io.KnownBytes.{Appends}
 use Rattle.tam_edge.specs.Whole.{AppendsFront}
-use Rattle.tam_graph.specs.Graphs.{Graph, AreArguments, code_of, params_of}
-use Rattle.tam_msgs.specs.declared.limits.Limits.{Limits}
+use Rattle.tam_graph.specs.Graphs.{Graph, AreArguments}
 use Rattle.tam_msgs.specs.Messages.{AreLimits}
-use Rattle.tam_msgs.specs.Runs.{result_line, text_of, missing_of}
-use Rattle.tam_run.specs.RightRuns.{RunsAreRight, RoomIsQuiet}
-use Rattle.tam_words.specs.Jobs.{Asked, Job, asked}
+use Rattle.tam_msgs.specs.Runs.{Report, result_line, text_of}
+use Rattle.tam_split.specs.GraphPartitions.{Partitions}
+use Rattle.tam_flow.specs.BorneOut.{IsBorneOut}
+use Rattle.tam_run.specs.declared.level.Level.TheVariants as level
+use Rattle.tam_run.specs.RightRuns.{RunsAreBorneOut, RunsAreRight, RoomIsQuiet}
+use Rattle.tam_words.specs.Names.{runs}
+use Rattle.tam_words.specs.Jobs.{Asked, asked}
 use Rattle.tam_words.proofs.JobParts.{asked-right}
-use Rattle.tam_input.specs.Refusing.{Files, read_fault_line, no_memory_line}
+use Rattle.tam_input.specs.declared.ending.Ending.{Ending}
+use Rattle.tam_input.specs.declared.ending.Ending.TheVariants.{ReadFault, WriteFault, NoMemory}
+use Rattle.tam_input.specs.Endings.{code_of}
+use Rattle.tam_input.specs.Told.{Told, Contents, Agrees}
+use Rattle.tam_input.specs.Refusing.{read_fault_line, no_memory_line}
 use Rattle.tam_input.specs.Inputs.{Request}
-use Rattle.tam.specs.Answers.{Answer, run_of, status_of}
-use Rattle.tam.specs.Headline.{AsksRun, IsDone, IsRightRun, RanOut}
-use Rattle.tam.proofs.Running.{not-ten, not-three, not-eleven}
-use Rattle.tam.proofs.Telling.{Told, whole, fault, ended, told}
-use Rattle.tam_word.proofs.Tests.{number-eq, number-differs}
+use Rattle.tam.specs.Answers.{Answer, AnswerTo, run_of, ending_of}
+use Rattle.tam.specs.Listed.{IsDue}
+use Rattle.tam.specs.Headline.{AsksText, AsksRun, IsDone, IsRightRun, IsAnswered, IsGiven, IsRightCall, KeepsFiles, RanOut, ReadFailed, TookReport}
+use Rattle.tam.proofs.Endings.{broke-or}
+use Rattle.tam.proofs.Running.{not-broken, not-unread, not-wanting}
+use Rattle.tam.proofs.Asking.{told-input}
+use Rattle.tam.proofs.Telling.{OfRun, whole, ended, told-of}
+use Rattle.tam.proofs.Dues.{answer-due, due-once}
 
-module _ (g : Graph) (ask : Request) (Failed : Type 0) (old new : Option (List ℕ)) where
-  -- by the status, what was written of a run
-  abbrev Wrote : ℕ → Type 0
-  Wrote status =
-      ((status ≡ status_of (run_of ask g)) × Appends old new (text_of (run_of ask g))) ⊎ (((status ≡ 3) × (Failed × Appends old new read_fault_line))
-      ⊎ ((status ≡ 11) × RanOut (Appends old new) (run_of ask g)))
+-- a read fault isn't want of memory
+unread-wanting : ReadFault ≡ NoMemory → ⊥
+unread-wanting e = cc
 
-  wrote : (status : ℕ) (text : List ℕ) → Told ask g Failed status text → Appends old new text → Wrote status
-  wrote status text whole a = inl (refl, a)
-  wrote status text (fault f) a = inr (inl (refl, (f, a)))
-  wrote status text (ended front rest is) a = inr (inr (refl, (front, rest, is, a)))
+-- nor a write fault
+unread-broken : ReadFault ≡ WriteFault → ⊥
+unread-broken e = cc
 
-  -- and of one that broke off
-  fronts : (status : ℕ) (text : List ℕ) → Told ask g Failed status text → AppendsFront old new text
-      → AppendsFront old new (text_of (run_of ask g))
-      ⊎ (RanOut (AppendsFront old new) (run_of ask g) ⊎ (Failed × AppendsFront old new read_fault_line))
-  fronts status text whole a = inl a
-  fronts status text (fault f) a = inr (inr (f, a))
-  fronts status text (ended front rest is) a = inr (inl (front, rest, is, a))
+-- nor is want of memory one
+wanting-broken : NoMemory ≡ WriteFault → ⊥
+wanting-broken e = cc
 
-module _ (right : RunsAreRight) (room : RoomIsQuiet) (words : List (List ℕ)) (left : Files) (g : Graph) (ask : Request) (Failed : Type 0)
-    (asks : AsksRun (asked words) left g ask) where
-  arguments : AreArguments g ask.args
-  arguments = record {
-    one_each = asks.graph.one_each;
-    words = λ k w e. (asked-right words asks.job asks.asked).args_are_words k w (subst (λ q. slice_get q.args k ≡ Some w) asks.same e);
-  }
+module _ (words : Asked) (contents : Contents) (before now : Told) (end : Ending) (old new : Option (List ℕ)) (faults faults_new : ℕ)
+    (done : IsDone (Answer words contents before now) end old new faults faults_new) where
+  module _ (g : Graph) (ask : Request) (asks : AsksRun words contents g ask) where
+    abbrev Failed : Type 0
+    Failed = ReadFailed words before now
 
-  limits : AreLimits ask.limits
-  limits = subst (λ q. AreLimits q.limits) (sym asks.same) (asked-right words asks.job asks.asked).limits_in_range
+    abbrev report : Report
+    report = run_of ask g
 
-  -- a run that is asked for is right
-  pub right-run : (status : ℕ) (old new : Option (List ℕ)) (faults faults_new : ℕ) → IsDone (Answer (asked words) left Failed) status old new faults faults_new
-      → IsRightRun g ask Failed status old new
-  right-run status old new faults faults_new d = record {
-    right = right g ask.args ask.order ask.limits asks.graph.spelled.accepted arguments limits;
-    complete = room g ask.args ask.order ask.limits asks.graph.spelled.accepted arguments limits;
-    whole = λ e. by-whole e (written (λ t. not-ten _ _ (sym e ∙ t)));
-    first_lines = λ e. ⊎_elim (λ a. absurd (not-eleven _ _ (sym a.0 ∙ e)))
-        (⊎_elim (λ b. absurd (omega (arith, e, b.0))) (λ c. c.1)) (written (λ t. absurd (omega (arith, e, t))));
-    fault = λ e. ⊎_elim (λ a. absurd (not-three _ _ (sym a.0 ∙ e)))
-        (⊎_elim (λ b. b.1) (λ c. absurd (omega (arith, e, c.0)))) (written (λ t. absurd (omega (arith, e, t))));
-    front = λ e. let b = d.broken e in fronts g ask Failed old new b.0 b.1 (told (asked words) left g ask Failed asks b.0 b.1 b.2) b.3;
-    no_other = which (status == 10) refl;
-  }
-    where
-      written : status ≢ 10 → Wrote g ask Failed old new status
-      written n = let a = d.said n in wrote g ask Failed old new status a.0 (told (asked words) left g ask Failed asks status a.0 a.1) a.2
+    -- by the ending, what was written of a run
+    abbrev Wrote : Type 0
+    Wrote = ((end ≡ ending_of report) × Appends old new (text_of report)) ⊎ (((end ≡ ReadFault) × (Failed × Appends old new read_fault_line))
+        ⊎ ((end ≡ NoMemory) × RanOut (Appends old new) report))
 
-      by-whole : status ≡ status_of (run_of ask g) → Wrote g ask Failed old new status → Appends old new (text_of (run_of ask g))
-      by-whole e (inl a) = a.1
-      by-whole e (inr (inl b)) = absurd (not-three _ _ (sym e ∙ b.0))
-      by-whole e (inr (inr c)) = absurd (not-eleven _ _ (sym e ∙ c.0))
+    -- where no write failed
+    written : end ≢ WriteFault → Wrote
+    written n = let s = done.said n in go s.0 (told-input words contents before now ask asks.bytes asks.input end s.0 s.1) s.2
+      where
+        of-run : (e : Ending) (text : List ℕ) → OfRun ask g e text → Appends old new text
+            → ((e ≡ ending_of report) × Appends old new (text_of report)) ⊎ ((e ≡ NoMemory) × RanOut (Appends old new) report)
+        of-run e text whole a = inl (refl, a)
+        of-run e text (ended front rest is) a = inr (refl, (front, rest, is, a))
 
-      which : (b : Bool) → (status == 10) ≡ b → (status ≡ status_of (run_of ask g)) ⊎ ((status ≡ 3) ⊎ ((status ≡ 10) ⊎ (status ≡ 11)))
-      which true e = inr (inr (inl (number-eq status 10 e)))
-      which false e = ⊎_elim (λ a. inl a.0) (⊎_elim (λ b. inr (inl b.0)) (λ c. inr (inr (inr c.0)))) (written (number-differs status 10 e))
+        go : (text : List ℕ) → AnswerTo ask asks.bytes end text ⊎ ((end ≡ ReadFault) × (text ≡ read_fault_line) × ReadFailed words before now)
+            → Appends old new text → Wrote
+        go text (inr f) a = inr (inl (f.0, (f.2, subst (Appends old new) f.1 a)))
+        go text (inl t) a = ⊎_elim (λ x. inl x) (λ x. inr (inr x)) (of-run end text (told-of ask asks.bytes g asks.graph end text t) a)
+
+    -- and of one that broke off
+    fronts : end ≡ WriteFault → AppendsFront old new (text_of report) ⊎ (RanOut (AppendsFront old new) report ⊎ (Failed × AppendsFront old new read_fault_line))
+    fronts e = let b = done.broken e in go b.0 b.1 (told-input words contents before now ask asks.bytes asks.input b.0 b.1 b.2) b.3
+      where
+        of-run : (m : Ending) (text : List ℕ) → OfRun ask g m text → AppendsFront old new text
+            → AppendsFront old new (text_of report) ⊎ (RanOut (AppendsFront old new) report ⊎ (Failed × AppendsFront old new read_fault_line))
+        of-run m text whole a = inl a
+        of-run m text (ended front rest is) a = inr (inl (front, rest, is, a))
+
+        go : (m : Ending) (text : List ℕ) → AnswerTo ask asks.bytes m text ⊎ ((m ≡ ReadFault) × (text ≡ read_fault_line) × ReadFailed words before now)
+            → AppendsFront old new text
+            → AppendsFront old new (text_of report) ⊎ (RanOut (AppendsFront old new) report ⊎ (Failed × AppendsFront old new read_fault_line))
+        go m text (inr f) a = inr (inr (f.2, subst (AppendsFront old new) f.1 a))
+        go m text (inl t) a = of-run m text (told-of ask asks.bytes g asks.graph m text t) a
+
+    -- the sink took the report
+    took : TookReport report Failed end old new
+    took = record {
+      whole = λ e. by-whole e (written (λ t. not-broken _ _ (sym e ∙ t)));
+      first_lines = λ e. ⊎_elim (λ a. absurd (not-wanting _ _ (sym a.0 ∙ e)))
+          (⊎_elim (λ b. absurd (unread-wanting (sym b.0 ∙ e))) (λ c. c.1)) (written (λ t. wanting-broken (sym e ∙ t)));
+      fault = λ e. ⊎_elim (λ a. absurd (not-unread _ _ (sym a.0 ∙ e)))
+          (⊎_elim (λ b. b.1) (λ c. absurd (unread-wanting (sym e ∙ c.0)))) (written (λ t. unread-broken (sym e ∙ t)));
+      front = fronts;
+      no_other = ⊎_elim (λ e. inr (inr (inl e)))
+          (λ n. ⊎_elim (λ a. inl a.0) (⊎_elim (λ b. inr (inl b.0)) (λ c. inr (inr (inr c.0)))) (written n)) (broke-or end);
+    }
+      where
+        by-whole : end ≡ ending_of report → Wrote → Appends old new (text_of report)
+        by-whole e (inl a) = a.1
+        by-whole e (inr (inl b)) = absurd (not-unread _ _ (sym e ∙ b.0))
+        by-whole e (inr (inr c)) = absurd (not-wanting _ _ (sym e ∙ c.0))
+
+  module _ (ask : Request) (bytes : List ℕ) (asks : AsksText words contents ask bytes) (no-run : runs ask.mode ≡ false) where
+    -- what was written is what is due
+    written-due : end ≢ WriteFault → ((text : List ℕ) × IsDue ask bytes end text × Appends old new text) ⊎ ((end ≡ ReadFault) ⊎ (end ≡ NoMemory))
+    written-due n = let s = done.said n in go s.0 (told-input words contents before now ask bytes asks end s.0 s.1) s.2
+      where
+        go : (text : List ℕ) → AnswerTo ask bytes end text ⊎ ((end ≡ ReadFault) × (text ≡ read_fault_line) × ReadFailed words before now)
+            → Appends old new text → ((text : List ℕ) × IsDue ask bytes end text × Appends old new text) ⊎ ((end ≡ ReadFault) ⊎ (end ≡ NoMemory))
+        go text (inr f) a = inr (inl f.0)
+        go text (inl t) a = ⊎_elim (λ d. inl (text, d, a)) (λ m. inr (inr m)) (answer-due ask bytes no-run end text t)
+
+    -- so the input is answered
+    input-answered : IsAnswered ask bytes end old new
+    input-answered = record {
+      given = λ meant text d. ⊎_elim (λ e. inr (inr (inl e))) (λ n. ⊎_elim
+          (λ w. let same = due-once ask bytes no-run end meant w.0 text w.1 d in inl (same.0, subst (Appends old new) same.1 w.2))
+          (⊎_elim (λ f. inr (inl f)) (λ m. inr (inr (inr m)))) (written-due n)) (broke-or end);
+      no_other = ⊎_elim (λ e. (end, [], inr (inr (inl e)))) (λ n. ⊎_elim (λ w. (end, w.0, inl (refl, w.1)))
+          (⊎_elim (λ f. (end, [], inr (inl f))) (λ m. (end, [], inr (inr (inr m))))) (written-due n)) (broke-or end);
+    }
+
+-- what the call makes sure of, by what was answered and what it leaves of the files
+pub right-call : RunsAreBorneOut → RunsAreRight → RoomIsQuiet → (words : List (List ℕ)) (contents : Contents) (before now : Told) (end : Ending) (old new : Option (List ℕ))
+    (faults faults_new : ℕ) → Agrees before.left contents → IsDone (Answer (asked words) contents before now) end old new faults faults_new
+    → KeepsFiles (asked words) end before now old new → IsRightCall (asked words) before now (code_of end) old new faults faults_new
+right-call borne right room words contents before now end old new faults faults_new agrees done files = record {
+  contents = contents;
+  agrees = agrees;
+  end = end;
+  code_is = refl;
+  done = done;
+  run = λ g ask asks. record {
+    right = let b = out g ask asks in right g b.0 ask.args ask.limits (run_of ask g) b.1;
+    complete = let b = out g ask asks in room g b.0 ask.args ask.limits (run_of ask g) b.1;
+    took = took (asked words) contents before now end old new faults faults_new done g ask asks;
+  };
+  answered = input-answered (asked words) contents before now end old new faults faults_new done;
+  files = files;
+}
+  where
+    arguments : (g : Graph) (ask : Request) → AsksRun (asked words) contents g ask → AreArguments g ask.args
+    arguments g ask asks = record {
+      one_each = asks.graph.one_each;
+      words = λ k w e. (asked-right words asks.input.job asks.input.asked).args_are_words k w (subst (λ q. slice_get q.args k ≡ Some w) asks.input.same e);
+    }
+
+    limits : (g : Graph) (ask : Request) → AsksRun (asked words) contents g ask → AreLimits ask.limits
+    limits g ask asks = subst (λ q. AreLimits q.limits) (sym asks.input.same) (asked-right words asks.input.job asks.input.asked).limits_in_range
+
+    out : (g : Graph) (ask : Request) → AsksRun (asked words) contents g ask → (all : Partitions) × IsBorneOut g all ask.args ask.limits (run_of ask g)
+    out g ask asks = borne level.Graph g ask.args ask.order ask.limits asks.graph.spelled.accepted (arguments g ask asks) (limits g ask asks)

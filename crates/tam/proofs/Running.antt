@@ -14,69 +14,60 @@ use Rattle.tam_msgs.specs.Runs.{Report, End, Quiet, Double_write, Out_of_range, 
 use Rattle.tam_run.specs.Ends.{end_of_stop}
 use Rattle.tam_run.specs.Writing.{WritesStopped, AppendsFirstLines}
 use Rattle.tam_run.proofs.Fronts.{front-more}
+use Rattle.tam_input.specs.declared.ending.Ending.{Ending}
+use Rattle.tam_input.specs.declared.ending.Ending.TheVariants.{Done, ResultsMissing, ReadFault, WriteFault}
+use Rattle.tam_input.specs.declared.ending.Ending.TheVariants as wants
 use Rattle.tam_input.specs.Inputs.{Request}
 use Rattle.tam_input.specs.Refusing.{no_memory_line}
-use Rattle.tam.specs.Answers.{AnswerTo, AsksGraph, ran, ran_out, run_of, status_by, status_of}
+use Rattle.tam.specs.Answers.{AnswerTo, AsksGraph, ran, ran_out, run_of, ending_by, ending_of}
 use Rattle.tam.specs.Headline.{IsSaid, IsDone}
 use Rattle.tam.specs.Stopping.{AnswersStop}
 use Rattle.tam_eval.specs.GraphRuns.{graph_told}
 use Rattle.tam_msgs.specs.declared.item.Item.{Item}
 use Rattle.tam_msgs.specs.declared.limits.Limits.{Limits}
 
--- no end has the status of a write fault
-pub not-ten : (how : End) (ks : List ℕ) → status_by how ks ≢ 10
-not-ten Quiet [] e = absurd (omega (arith, e))
-not-ten Quiet (k ∷ ks) e = absurd (omega (arith, e))
-not-ten (Double_write s t) ks e = absurd (omega (arith, e))
-not-ten (Out_of_range s i l) ks e = absurd (omega (arith, e))
-not-ten (Frames_full n) ks e = absurd (omega (arith, e))
-not-ten (Cells_full u l) ks e = absurd (omega (arith, e))
-not-ten (Budget_spent n) ks e = absurd (omega (arith, e))
-not-ten (Wild what n) ks e = absurd (omega (arith, e))
-not-ten (Trap pc cause) ks e = absurd (omega (arith, e))
+-- no end of a run is a write fault
+pub not-broken : (how : End) (ks : List ℕ) → ending_by how ks ≢ WriteFault
+not-broken Quiet [] e = absurd (cc)
+not-broken Quiet (k ∷ ks) e = absurd (cc)
+not-broken (Double_write s t) ks e = absurd (cc)
+not-broken (Out_of_range s i l) ks e = absurd (cc)
+not-broken (Frames_full n) ks e = absurd (cc)
+not-broken (Cells_full u l) ks e = absurd (cc)
+not-broken (Budget_spent n) ks e = absurd (cc)
+not-broken (Wild what n) ks e = absurd (cc)
+not-broken (Trap pc cause) ks e = absurd (cc)
 
--- nor that of a read fault
-pub not-three : (how : End) (ks : List ℕ) → status_by how ks ≢ 3
-not-three Quiet [] e = absurd (omega (arith, e))
-not-three Quiet (k ∷ ks) e = absurd (omega (arith, e))
-not-three (Double_write s t) ks e = absurd (omega (arith, e))
-not-three (Out_of_range s i l) ks e = absurd (omega (arith, e))
-not-three (Frames_full n) ks e = absurd (omega (arith, e))
-not-three (Cells_full u l) ks e = absurd (omega (arith, e))
-not-three (Budget_spent n) ks e = absurd (omega (arith, e))
-not-three (Wild what n) ks e = absurd (omega (arith, e))
-not-three (Trap pc cause) ks e = absurd (omega (arith, e))
+-- nor a read fault
+pub not-unread : (how : End) (ks : List ℕ) → ending_by how ks ≢ ReadFault
+not-unread Quiet [] e = absurd (cc)
+not-unread Quiet (k ∷ ks) e = absurd (cc)
+not-unread (Double_write s t) ks e = absurd (cc)
+not-unread (Out_of_range s i l) ks e = absurd (cc)
+not-unread (Frames_full n) ks e = absurd (cc)
+not-unread (Cells_full u l) ks e = absurd (cc)
+not-unread (Budget_spent n) ks e = absurd (cc)
+not-unread (Wild what n) ks e = absurd (cc)
+not-unread (Trap pc cause) ks e = absurd (cc)
 
--- nor that of want of memory
-pub not-eleven : (how : End) (ks : List ℕ) → status_by how ks ≢ 11
-not-eleven Quiet [] e = absurd (omega (arith, e))
-not-eleven Quiet (k ∷ ks) e = absurd (omega (arith, e))
-not-eleven (Double_write s t) ks e = absurd (omega (arith, e))
-not-eleven (Out_of_range s i l) ks e = absurd (omega (arith, e))
-not-eleven (Frames_full n) ks e = absurd (omega (arith, e))
-not-eleven (Cells_full u l) ks e = absurd (omega (arith, e))
-not-eleven (Budget_spent n) ks e = absurd (omega (arith, e))
-not-eleven (Wild what n) ks e = absurd (omega (arith, e))
-not-eleven (Trap pc cause) ks e = absurd (omega (arith, e))
+-- nor want of memory
+pub not-wanting : (how : End) (ks : List ℕ) → ending_by how ks ≢ wants.NoMemory
+not-wanting Quiet [] e = absurd (cc)
+not-wanting Quiet (k ∷ ks) e = absurd (cc)
+not-wanting (Double_write s t) ks e = absurd (cc)
+not-wanting (Out_of_range s i l) ks e = absurd (cc)
+not-wanting (Frames_full n) ks e = absurd (cc)
+not-wanting (Cells_full u l) ks e = absurd (cc)
+not-wanting (Budget_spent n) ks e = absurd (cc)
+not-wanting (Wild what n) ks e = absurd (cc)
+not-wanting (Trap pc cause) ks e = absurd (cc)
 
--- the greatest status of an end
-pub most-status : (how : End) (ks : List ℕ) → status_by how ks ≤ 12
-most-status Quiet [] = omega arith
-most-status Quiet (k ∷ ks) = omega arith
-most-status (Double_write s t) ks = omega arith
-most-status (Out_of_range s i l) ks = omega arith
-most-status (Frames_full n) ks = omega arith
-most-status (Cells_full u l) ks = omega arith
-most-status (Budget_spent n) ks = omega arith
-most-status (Wild what n) ks = omega arith
-most-status (Trap pc cause) ks = omega arith
-
--- the status of a quiet run
-pub quiet-status : (how : End) (ks : List ℕ) (missing code : ℕ) → how ≡ Quiet → missing ≡ length ks → (missing ≡ 0 → code ≡ 0) → (missing ≢ 0 → code ≡ 4)
-    → code ≡ status_by how ks
-quiet-status how ks missing code q m none some = go ks m ∙ ap (λ h. status_by h ks) (sym q)
+-- how the program ends behind a quiet run
+pub quiet-ending : (how : End) (ks : List ℕ) (missing : ℕ) (end : Ending) → how ≡ Quiet → missing ≡ length ks → (missing ≡ 0 → end ≡ Done)
+    → (missing ≢ 0 → end ≡ ResultsMissing) → end ≡ ending_by how ks
+quiet-ending how ks missing end q m none some = go ks m ∙ ap (λ h. ending_by h ks) (sym q)
   where
-    go : (ls : List ℕ) → missing ≡ length ls → code ≡ status_by Quiet ls
+    go : (ls : List ℕ) → missing ≡ length ls → end ≡ ending_by Quiet ls
     go [] e = none e
     go (k ∷ ls) e = some (λ z. absurd (omega (arith, e, z)))
 
@@ -84,15 +75,15 @@ quiet-status how ks missing code q m none some = go ks m ∙ ap (λ h. status_by
 some-is : (a b : End) → ◌≡◌ {A = Option End} (Some a) (Some b) → a ≡ b
 some-is a b e = cc
 
--- the status of a run that stopped
-pub stop-status : (how : End) (ks : List ℕ) (stop : Stop) (code : ℕ) → Some how ≡ end_of_stop stop → IfSome (end_of_stop stop) (λ h. code ≡ status_by h [])
-    → code ≡ status_by how ks
-stop-status how ks (DoubleWrite s t) code e c = c ∙ ap (λ h. status_by h ks) (sym (some-is how (Double_write s t) e))
-stop-status how ks (OutOfRange s i l) code e c = c ∙ ap (λ h. status_by h ks) (sym (some-is how (Out_of_range s i l) e))
-stop-status how ks (FramesFull n) code e c = c ∙ ap (λ h. status_by h ks) (sym (some-is how (Frames_full n) e))
-stop-status how ks (CellsFull u l) code e c = c ∙ ap (λ h. status_by h ks) (sym (some-is how (Cells_full u l) e))
-stop-status how ks (BudgetSpent n) code e c = c ∙ ap (λ h. status_by h ks) (sym (some-is how (Budget_spent n) e))
-stop-status how ks NoMemory code e c = absurd (cc)
+-- how it ends behind a run that stopped
+pub stop-ending : (how : End) (ks : List ℕ) (stop : Stop) (code : Ending) → Some how ≡ end_of_stop stop → IfSome (end_of_stop stop) (λ h. code ≡ ending_by h [])
+    → code ≡ ending_by how ks
+stop-ending how ks (DoubleWrite s t) code e c = c ∙ ap (λ h. ending_by h ks) (sym (some-is how (Double_write s t) e))
+stop-ending how ks (OutOfRange s i l) code e c = c ∙ ap (λ h. ending_by h ks) (sym (some-is how (Out_of_range s i l) e))
+stop-ending how ks (FramesFull n) code e c = c ∙ ap (λ h. ending_by h ks) (sym (some-is how (Frames_full n) e))
+stop-ending how ks (CellsFull u l) code e c = c ∙ ap (λ h. ending_by h ks) (sym (some-is how (Cells_full u l) e))
+stop-ending how ks (BudgetSpent n) code e c = c ∙ ap (λ h. ending_by h ks) (sym (some-is how (Budget_spent n) e))
+stop-ending how ks NoMemory code e c = absurd (cc)
 
 -- one word for each param of `main`
 pub one-each : (g : Graph) (args same : List ℕ) (main params : ℕ) → same ≡ args → main ≡ g.main → params ≡ params_of (code_of g main)
@@ -106,28 +97,28 @@ same-run g args given order limits ls e f = ap (λ a. graph_told g a order ls) e
 
 module _ (ask : Request) (bytes : List ℕ) (g : Graph) (asks : AsksGraph ask bytes g) (old new : Option (List ℕ)) (faults faults_new : ℕ) where
   -- a run was written whole
-  pub whole-done : (status : ℕ) → status ≡ status_of (run_of ask g) → Appends old new (text_of (run_of ask g)) → faults_new ≡ faults
-      → IsDone (AnswerTo ask bytes) status old new faults faults_new
-  whole-done status e taken same = record {
+  pub whole-done : (end : Ending) → end ≡ ending_of (run_of ask g) → Appends old new (text_of (run_of ask g)) → faults_new ≡ faults
+      → IsDone (AnswerTo ask bytes) end old new faults faults_new
+  whole-done end e taken same = record {
     said = λ n. (text_of (run_of ask g), subst (λ c. AnswerTo ask bytes c (text_of (run_of ask g))) (sym e) (ran asks), taken);
     none = λ n. same;
-    broken = λ t. absurd (not-ten (run_of ask g).how (missing_of (run_of ask g).how (run_of ask g).results (run_of ask g).printed) (sym e ∙ t));
-    fault = λ t. absurd (not-ten (run_of ask g).how (missing_of (run_of ask g).how (run_of ask g).results (run_of ask g).printed) (sym e ∙ t));
+    broken = λ t. absurd (not-broken (run_of ask g).how (missing_of (run_of ask g).how (run_of ask g).results (run_of ask g).printed) (sym e ∙ t));
+    fault = λ t. absurd (not-broken (run_of ask g).how (missing_of (run_of ask g).how (run_of ask g).results (run_of ask g).printed) (sym e ∙ t));
   }
 
   -- a write of a run failed
-  pub broken-done : AppendsFront old new (text_of (run_of ask g)) → CountsFault faults faults_new → IsDone (AnswerTo ask bytes) 10 old new faults faults_new
+  pub broken-done : AppendsFront old new (text_of (run_of ask g)) → CountsFault faults faults_new → IsDone (AnswerTo ask bytes) WriteFault old new faults faults_new
   broken-done taken counted = record {
     said = λ n. absurd (n refl);
     none = λ n. absurd (n refl);
-    broken = λ e. (status_of (run_of ask g), text_of (run_of ask g), ran asks, taken);
+    broken = λ e. (ending_of (run_of ask g), text_of (run_of ask g), ran asks, taken);
     fault = λ e. counted;
   }
 
   -- memory was wanted in a run, which was said
-  pub out-done : (mid : Option (List ℕ)) (faults_mid status : ℕ) → AppendsFirstLines old mid (run_of ask g).printed → faults_mid ≡ faults
-      → IsSaid 11 no_memory_line status mid new faults_mid faults_new → IsDone (AnswerTo ask bytes) status old new faults faults_new
-  out-done mid faults_mid status (front, rest, is, taken) same s =
+  pub out-done : (mid : Option (List ℕ)) (faults_mid : ℕ) (end : Ending) → AppendsFirstLines old mid (run_of ask g).printed → faults_mid ≡ faults
+      → IsSaid wants.NoMemory no_memory_line end mid new faults_mid faults_new → IsDone (AnswerTo ask bytes) end old new faults faults_new
+  out-done mid faults_mid end (front, rest, is, taken) same s =
       let text = flat_map result_line front ++ no_memory_line in
       record {
         said = λ n. (
@@ -137,7 +128,7 @@ module _ (ask : Request) (bytes : List ℕ) (g : Graph) (asks : AsksGraph ask by
         );
         none = λ n. s.none n ∙ same;
         broken = λ e. (
-          11,
+          wants.NoMemory,
           text,
           ran_out front rest asks is,
           front-more old mid new (flat_map result_line front) no_memory_line [] text taken (s.broken e)
@@ -147,20 +138,20 @@ module _ (ask : Request) (bytes : List ℕ) (g : Graph) (asks : AsksGraph ask by
       }
 
   -- an end was answered
-  ended : (stop : Stop) (mid : Option (List ℕ)) (faults_mid status : ℕ) → Appends old mid (text_of (run_of ask g)) × (Some (run_of ask g).how ≡ end_of_stop stop)
-      → faults_mid ≡ faults → IfSome (end_of_stop stop) (λ how. status ≡ status_by how []) × (new ≡ mid) × (faults_new ≡ faults_mid)
-      → IsDone (AnswerTo ask bytes) status old new faults faults_new
-  ended stop mid faults_mid status (taken, end) same (code, kept, count) =
-      whole-done status
-      (stop-status (run_of ask g).how (missing_of (run_of ask g).how (run_of ask g).results (run_of ask g).printed) stop status end code)
+  ended : (stop : Stop) (mid : Option (List ℕ)) (faults_mid : ℕ) (end : Ending) → Appends old mid (text_of (run_of ask g)) × (Some (run_of ask g).how ≡ end_of_stop stop)
+      → faults_mid ≡ faults → IfSome (end_of_stop stop) (λ how. end ≡ ending_by how []) × (new ≡ mid) × (faults_new ≡ faults_mid)
+      → IsDone (AnswerTo ask bytes) end old new faults faults_new
+  ended stop mid faults_mid end (taken, how-is) same (code, kept, count) =
+      whole-done end
+      (stop-ending (run_of ask g).how (missing_of (run_of ask g).how (run_of ask g).results (run_of ask g).printed) stop end how-is code)
       (subst (λ n. Appends old n (text_of (run_of ask g))) (sym kept) taken) (count ∙ same)
 
   -- a run stopped, and its end was answered
-  pub stopped-done : (stop : Stop) (mid : Option (List ℕ)) (faults_mid status : ℕ) → WritesStopped (run_of ask g) old mid stop → faults_mid ≡ faults
-      → AnswersStop stop status mid new faults_mid faults_new → IsDone (AnswerTo ask bytes) status old new faults faults_new
-  stopped-done NoMemory mid faults_mid status w same s = out-done mid faults_mid status w same s
-  stopped-done (DoubleWrite x y) mid faults_mid status w same s = ended (DoubleWrite x y) mid faults_mid status w same s
-  stopped-done (OutOfRange x i l) mid faults_mid status w same s = ended (OutOfRange x i l) mid faults_mid status w same s
-  stopped-done (FramesFull n) mid faults_mid status w same s = ended (FramesFull n) mid faults_mid status w same s
-  stopped-done (CellsFull u l) mid faults_mid status w same s = ended (CellsFull u l) mid faults_mid status w same s
-  stopped-done (BudgetSpent n) mid faults_mid status w same s = ended (BudgetSpent n) mid faults_mid status w same s
+  pub stopped-done : (stop : Stop) (mid : Option (List ℕ)) (faults_mid : ℕ) (end : Ending) → WritesStopped (run_of ask g) old mid stop → faults_mid ≡ faults
+      → AnswersStop stop end mid new faults_mid faults_new → IsDone (AnswerTo ask bytes) end old new faults faults_new
+  stopped-done NoMemory mid faults_mid end w same s = out-done mid faults_mid end w same s
+  stopped-done (DoubleWrite x y) mid faults_mid end w same s = ended (DoubleWrite x y) mid faults_mid end w same s
+  stopped-done (OutOfRange x i l) mid faults_mid end w same s = ended (OutOfRange x i l) mid faults_mid end w same s
+  stopped-done (FramesFull n) mid faults_mid end w same s = ended (FramesFull n) mid faults_mid end w same s
+  stopped-done (CellsFull u l) mid faults_mid end w same s = ended (CellsFull u l) mid faults_mid end w same s
+  stopped-done (BudgetSpent n) mid faults_mid end w same s = ended (BudgetSpent n) mid faults_mid end w same s

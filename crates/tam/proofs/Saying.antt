@@ -2,14 +2,16 @@
 use Rattle.std.proofs.Common.{◌≡◌, ◌≢◌, ℕ, List, sym, subst}
 use Rattle.std.specs.Prelude.{Option, Result, Ok, Err, Vec, IfOk, MatchResult}
 use Rattle.std.specs.declared.alloc.Global.{Global}
+use Rattle.tam_input.specs.declared.ending.Ending.{Ending}
+use Rattle.tam_input.specs.declared.ending.Ending.TheVariants.{NoMemory}
 use Rattle.tam_input.specs.Refusing.{no_memory_line}
 use Rattle.tam.specs.Headline.{IsSaid, IsDone}
 
 module _ (old new : Option (List ℕ)) (faults faults_new : ℕ) where
   -- one of the texts was said
-  pub said-done : (Says : ℕ → List ℕ → Type 0) (meant status : ℕ) (text : List ℕ) → Says meant text → IsSaid meant text status old new faults faults_new
-      → IsDone Says status old new faults faults_new
-  said-done Says meant status text is s = record {
+  pub said-done : (Says : Ending → List ℕ → Type 0) (meant end : Ending) (text : List ℕ) → Says meant text → IsSaid meant text end old new faults faults_new
+      → IsDone Says end old new faults faults_new
+  said-done Says meant end text is s = record {
     said = λ n. (text, subst (λ c. Says c text) (sym (s.said n).0) is, (s.said n).1);
     none = s.none;
     broken = λ e. (meant, text, is, s.broken e);
@@ -17,25 +19,25 @@ module _ (old new : Option (List ℕ)) (faults faults_new : ℕ) where
   }
 
   -- what was done of some texts was done of more
-  pub done-more : (Says More : ℕ → List ℕ → Type 0) (status : ℕ) → ((meant : ℕ) (text : List ℕ) → Says meant text → More meant text)
-      → IsDone Says status old new faults faults_new → IsDone More status old new faults faults_new
-  done-more Says More status more d = record {
-    said = λ n. let s = d.said n in (s.0, more status s.0 s.1, s.2);
+  pub done-more : (Says More : Ending → List ℕ → Type 0) (end : Ending) → ((meant : Ending) (text : List ℕ) → Says meant text → More meant text)
+      → IsDone Says end old new faults faults_new → IsDone More end old new faults faults_new
+  done-more Says More end more d = record {
+    said = λ n. let s = d.said n in (s.0, more end s.0 s.1, s.2);
     none = d.none;
     broken = λ e. let b = d.broken e in (b.0, b.1, more b.0 b.1 b.2, b.3);
     fault = d.fault;
   }
 
   -- a text that was made was said, or that memory was wanted
-  pub made-done : {E : Type 0} (Says : ℕ → List ℕ → Type 0) (meant status : ℕ) (made : Result (Vec ℕ Global) E) (text : List ℕ) → Says meant text
-      → Says 11 no_memory_line → IfOk made (λ t. t.items ≡ text)
-      → MatchResult made (λ t. IsSaid meant t.items status old new faults faults_new) (λ e. IsSaid 11 no_memory_line status old new faults faults_new)
-      → IsDone Says status old new faults faults_new
-  made-done Says meant status (Ok t) text is wanted e s = said-done Says meant status text is (subst (λ x. IsSaid meant x status old new faults faults_new) e s)
-  made-done Says meant status (Err e) text is wanted m s = said-done Says 11 status no_memory_line wanted s
+  pub made-done : {E : Type 0} (Says : Ending → List ℕ → Type 0) (meant end : Ending) (made : Result (Vec ℕ Global) E) (text : List ℕ) → Says meant text
+      → Says NoMemory no_memory_line → IfOk made (λ t. t.items ≡ text)
+      → MatchResult made (λ t. IsSaid meant t.items end old new faults faults_new) (λ e. IsSaid NoMemory no_memory_line end old new faults faults_new)
+      → IsDone Says end old new faults faults_new
+  made-done Says meant end (Ok t) text is wanted e s = said-done Says meant end text is (subst (λ x. IsSaid meant x end old new faults faults_new) e s)
+  made-done Says meant end (Err e) text is wanted m s = said-done Says NoMemory end no_memory_line wanted s
 
 -- a text that was said by another name
-pub said-is : (meant other status : ℕ) (text more : List ℕ) (old new : Option (List ℕ)) (faults faults_new : ℕ) → other ≡ meant → more ≡ text
-    → IsSaid other more status old new faults faults_new → IsSaid meant text status old new faults faults_new
-said-is meant other status text more old new faults faults_new e f s =
-    subst (λ m. IsSaid m text status old new faults faults_new) e (subst (λ t. IsSaid other t status old new faults faults_new) f s)
+pub said-is : (meant other end : Ending) (text more : List ℕ) (old new : Option (List ℕ)) (faults faults_new : ℕ) → other ≡ meant → more ≡ text
+    → IsSaid other more end old new faults faults_new → IsSaid meant text end old new faults faults_new
+said-is meant other end text more old new faults faults_new e f s =
+    subst (λ m. IsSaid m text end old new faults faults_new) e (subst (λ t. IsSaid other t end old new faults faults_new) f s)

@@ -1,19 +1,26 @@
--- What the top call makes sure of, by what is asked and by what is left of the files: its answer, and that runs are right.
-use Rattle.std.specs.Prelude.{ℕ, ◌≡◌, ◌≢◌, ◌≤◌, ◌⊎◌, List, ◌++◌, flat_map, map, Option, String}
+-- What the top call makes sure of, by what is asked and by what is left of the files: its answer, that runs are right, that inputs are answered.
+use Rattle.std.specs.Prelude.{ℕ, ◌≡◌, ◌≢◌, ◌≤◌, ◌⊎◌, Bool, true, false, List, ◌++◌, flat_map, length, map, Option, String}
 use Rattle.std.specs.declared.alloc.Global.{Global}
 use Rattle.std.specs.String.{string_bytes}
 use Rattle.std.specs.Io.KnownBytes.{Appends}
-use Rattle.tam_edge.specs.Faults.{Rose, CountsFault}
+use Rattle.tam_edge.specs.Faults.{CountsFault}
 use Rattle.tam_edge.specs.Whole.{AppendsFront}
 use Rattle.tam_graph.specs.Graphs.{Graph}
 use Rattle.tam_msgs.specs.declared.item.Item.{Item}
-use Rattle.tam_msgs.specs.Runs.{Quiet, Report, result_line, text_of}
-use Rattle.tam_eval.specs.Headline.{IsRight}
+use Rattle.tam_msgs.specs.Runs.{Quiet, Report, result_line, text_of as report_text}
+use Rattle.tam_flow.specs.Headline.{IsRight}
 use Rattle.tam_run.specs.RightRuns.{HasRoom}
+use Rattle.tam_words.specs.Names.{runs}
 use Rattle.tam_words.specs.Jobs.{Asked, Job, JobParts, asked}
-use Rattle.tam_input.specs.Refusing.{Files, IsLeft, IsOrder, input_of, most_bytes, read_fault_line, no_memory_line}
+use Rattle.tam_input.specs.declared.ending.Ending.{Ending}
+use Rattle.tam_input.specs.declared.ending.Ending.TheVariants.{Done, Refused, ReadFault, ResultsMissing, DoubleWrite, OutOfRange, FramesFull}
+use Rattle.tam_input.specs.declared.ending.Ending.TheVariants.{CellsFull, BudgetSpent, WriteFault, NoMemory, Broken, NoWords, Usage}
+use Rattle.tam_input.specs.Endings.{code_of}
+use Rattle.tam_input.specs.Told.{Told, HasFailed, Contents, Agrees}
+use Rattle.tam_input.specs.Refusing.{IsOrder, text_of, most_bytes, read_fault_line, no_memory_line}
 use Rattle.tam_input.specs.Inputs.{Request, request_of, IsReadOut, Names}
-use Rattle.tam.specs.Answers.{AsksGraph, run_of, status_of}
+use Rattle.tam.specs.Answers.{Answer, AsksGraph, run_of, ending_of}
+use Rattle.tam.specs.Listed.{IsDue}
 
 -- what the words ask for
 abbrev pub ask_of : List (String Global) → Asked
@@ -21,62 +28,114 @@ ask_of words = asked (map string_bytes words)
 
 -- ---- an answer was written
 
--- a text was said under a status; where a write failed, the status is 10, its count says so, and a front of the text was taken
-pub record IsSaid (meant : ℕ) (text : List ℕ) (status : ℕ) (old new : Option (List ℕ)) (faults faults_new : ℕ) : Type 0 where
-  pub said : status ≢ 10 → (status ≡ meant) × Appends old new text
-  pub none : status ≢ 10 → faults_new ≡ faults
-  pub broken : status ≡ 10 → AppendsFront old new text
-  pub fault : status ≡ 10 → CountsFault faults faults_new
+-- a text was said under an ending; where a write failed, that is the ending, the count says so, and a front of the text was taken
+pub record IsSaid (meant : Ending) (text : List ℕ) (end : Ending) (old new : Option (List ℕ)) (faults faults_new : ℕ) : Type 0 where
+  pub said : end ≢ WriteFault → (end ≡ meant) × Appends old new text
+  pub none : end ≢ WriteFault → faults_new ≡ faults
+  pub broken : end ≡ WriteFault → AppendsFront old new text
+  pub fault : end ≡ WriteFault → CountsFault faults faults_new
 
--- one of the texts was written whole under its status, or a front of one before a write fault, whose count says so
-pub record IsDone (Says : ℕ → List ℕ → Type 0) (status : ℕ) (old new : Option (List ℕ)) (faults faults_new : ℕ) : Type 0 where
-  pub said : status ≢ 10 → (text : List ℕ) × Says status text × Appends old new text
-  pub none : status ≢ 10 → faults_new ≡ faults
-  pub broken : status ≡ 10 → (meant : ℕ) × (text : List ℕ) × Says meant text × AppendsFront old new text
-  pub fault : status ≡ 10 → CountsFault faults faults_new
+-- one of the texts was written whole under its ending, or a front of one before a write fault, whose count says so
+pub record IsDone (Says : Ending → List ℕ → Type 0) (end : Ending) (old new : Option (List ℕ)) (faults faults_new : ℕ) : Type 0 where
+  pub said : end ≢ WriteFault → (text : List ℕ) × Says end text × Appends old new text
+  pub none : end ≢ WriteFault → faults_new ≡ faults
+  pub broken : end ≡ WriteFault → (meant : Ending) × (text : List ℕ) × Says meant text × AppendsFront old new text
+  pub fault : end ≡ WriteFault → CountsFault faults faults_new
 
 -- ---- files
 
 -- a read of a file that the words name failed: its count rose, or stands at its last value
-abbrev pub ReadFailed : Asked → (List ℕ → ℕ) → (List ℕ → ℕ) → Type 0
-ReadFailed ask faults faults_new = (file : List ℕ) × Names ask file × Rose (faults file) (faults_new file)
+abbrev pub ReadFailed : Asked → Told → Told → Type 0
+ReadFailed ask before now = (file : List ℕ) × Names ask file × HasFailed before now file
+
+-- whether something was run or listed
+abbrev pub has_answered : Ending → Bool
+has_answered Done = true
+has_answered Refused = false
+has_answered Usage = false
+has_answered ReadFault = false
+has_answered ResultsMissing = true
+has_answered DoubleWrite = true
+has_answered OutOfRange = true
+has_answered FramesFull = true
+has_answered CellsFull = true
+has_answered BudgetSpent = true
+has_answered WriteFault = false
+has_answered NoMemory = false
+has_answered Broken = true
+has_answered NoWords = false
 
 -- Nothing changes of a file that the words don't name. A read fault is answered only where the count of one that they name rose, or stands at its
 -- last value, and where a count changed it is answered, or a front of its line before a write fault. What is run or listed was read to its end.
-pub record KeepsFiles (ask : Asked) (status : ℕ) (left left_new : Files) (faults faults_new : List ℕ → ℕ) (old new : Option (List ℕ)) : Type 0 where
-  pub other_left : (file : List ℕ) → ¬ Names ask file → left_new file ≡ left file
-  pub other_faults : (file : List ℕ) → ¬ Names ask file → faults_new file ≡ faults file
-  pub read_fault : status ≡ 3 → ReadFailed ask faults faults_new
-  pub fault_told : (file : List ℕ) → faults_new file ≢ faults file → (status ≡ 3) ⊎ ((status ≡ 10) × AppendsFront old new read_fault_line)
-  pub read_out : (file : List ℕ) → Names ask file → (status ≡ 0) ⊎ ((4 ≤ status) × (status ≤ 9)) → IsReadOut (left file) (left_new file)
+pub record KeepsFiles (ask : Asked) (end : Ending) (before now : Told) (old new : Option (List ℕ)) : Type 0 where
+  pub other_left : (file : List ℕ) → ¬ Names ask file → now.left file ≡ before.left file
+  pub other_faults : (file : List ℕ) → ¬ Names ask file → now.faults file ≡ before.faults file
+  pub read_fault : end ≡ ReadFault → ReadFailed ask before now
+  pub fault_told : (file : List ℕ) → now.faults file ≢ before.faults file → (end ≡ ReadFault) ⊎ ((end ≡ WriteFault) × AppendsFront old new read_fault_line)
+  pub read_out : (file : List ℕ) → Names ask file → has_answered end ≡ true → IsReadOut (before.left file) (now.left file)
 
--- ---- runs
+-- ---- what is asked for
 
--- a run of the graph is asked for: on these arguments, under this order list and within these limits
-pub record AsksRun (words : Asked) (left : Files) (g : Graph) (ask : Request) : Type 0 where
+-- an input is asked for: a job, with an order list and with these bytes as its text, neither of them too long
+pub record AsksText (words : Asked) (contents : Contents) (ask : Request) (bytes : List ℕ) : Type 0 where
   pub job : JobParts
   pub order : List Item
   pub asked : words ≡ Job job
   pub same : ask ≡ request_of job order
-  pub ordered : IsOrder job left order
+  pub ordered : IsOrder job contents order
+  pub text : text_of job contents ≡ bytes
+  pub few : length bytes ≤ most_bytes job.mode
+
+-- a run of the graph is asked for: on these arguments, under this order list and within these limits
+pub record AsksRun (words : Asked) (contents : Contents) (g : Graph) (ask : Request) : Type 0 where
   pub bytes : List ℕ
-  pub content : IsLeft (input_of job left) (most_bytes job.mode) bytes
+  pub input : AsksText words contents ask bytes
   pub graph : AsksGraph ask bytes g
+
+-- ---- runs
 
 -- the lines of first results of a run, and then that memory was wanted, were taken in some way
 abbrev pub RanOut : (List ℕ → Type 0) → Report → Type 0
 RanOut Taken r = (front rest : List (ℕ × ℕ)) × (r.printed ≡ front ++ rest) × Taken (flat_map result_line front ++ no_memory_line)
 
+-- What the sink took of the report of a run. Under the ending of the run it took exactly its text. Else memory was wanted, behind the lines of its first
+-- results, or a read failed, or a write, and then the sink took a front of one of these: that of a read fault only where a read failed.
+pub record TookReport (r : Report) (Failed : Type 0) (end : Ending) (old new : Option (List ℕ)) : Type 0 where
+  pub whole : end ≡ ending_of r → Appends old new (report_text r)
+  pub first_lines : end ≡ NoMemory → RanOut (Appends old new) r
+  pub fault : end ≡ ReadFault → Failed × Appends old new read_fault_line
+  pub front : end ≡ WriteFault → AppendsFront old new (report_text r) ⊎ (RanOut (AppendsFront old new) r ⊎ (Failed × AppendsFront old new read_fault_line))
+  pub no_other : (end ≡ ending_of r) ⊎ ((end ≡ ReadFault) ⊎ ((end ≡ WriteFault) ⊎ (end ≡ NoMemory)))
+
 -- Of a run that is asked for: each line is a result of the firing rules, no place has two lines, a quiet run has exactly the results, a result is
 -- missing exactly where no number of unfoldings gives it, and every other end has its cause in the rules. Where the limits leave room for what the rules
--- give, the run is quiet. Under the status of its end the sink took exactly its text. Else memory was wanted, behind the lines of its first
--- results, or a read failed, or a write, and then the sink took a front of one of these: that of a read fault only where a read failed.
-pub record IsRightRun (g : Graph) (ask : Request) (Failed : Type 0) (status : ℕ) (old new : Option (List ℕ)) : Type 0 where
+-- give, the run is quiet. And the sink took its report.
+pub record IsRightRun (g : Graph) (ask : Request) (Failed : Type 0) (end : Ending) (old new : Option (List ℕ)) : Type 0 where
   pub right : IsRight g ask.args ask.limits (run_of ask g)
   pub complete : HasRoom g ask.args ask.limits → (run_of ask g).how ≡ Quiet
-  pub whole : status ≡ status_of (run_of ask g) → Appends old new (text_of (run_of ask g))
-  pub first_lines : status ≡ 11 → RanOut (Appends old new) (run_of ask g)
-  pub fault : status ≡ 3 → Failed × Appends old new read_fault_line
-  pub front : status ≡ 10 → AppendsFront old new (text_of (run_of ask g))
-      ⊎ (RanOut (AppendsFront old new) (run_of ask g) ⊎ (Failed × AppendsFront old new read_fault_line))
-  pub no_other : (status ≡ status_of (run_of ask g)) ⊎ ((status ≡ 3) ⊎ ((status ≡ 10) ⊎ (status ≡ 11)))
+  pub took : TookReport (run_of ask g) Failed end old new
+
+-- ---- inputs that aren't run
+
+-- this text was written under this ending, or a read failed, or a write, or memory was wanted
+abbrev pub IsGiven : Ending → List ℕ → Ending → Option (List ℕ) → Option (List ℕ) → Type 0
+IsGiven meant text end old new = ((end ≡ meant) × Appends old new text) ⊎ ((end ≡ ReadFault) ⊎ ((end ≡ WriteFault) ⊎ (end ≡ NoMemory)))
+
+-- Of an input in a mode that makes no run: something is due, its listing where it is accepted and its first fault where it isn't, and that is given.
+pub record IsAnswered (ask : Request) (bytes : List ℕ) (end : Ending) (old new : Option (List ℕ)) : Type 0 where
+  pub given : (meant : Ending) (text : List ℕ) → IsDue ask bytes meant text → IsGiven meant text end old new
+  pub no_other : (meant : Ending) × (text : List ℕ) × (((end ≡ meant) × IsDue ask bytes meant text) ⊎ ((end ≡ ReadFault) ⊎ ((end ≡ WriteFault) ⊎ (end ≡ NoMemory))))
+
+-- ---- the call
+
+-- What the call makes sure of: for some bytes of each file, which agree with all that is told, the answer is theirs; whatever run is asked for of
+-- whatever graph they spell is right; and each other input is answered.
+pub record IsRightCall (words : Asked) (before now : Told) (code : ℕ) (old new : Option (List ℕ)) (faults faults_new : ℕ) : Type 0 where
+  pub contents : Contents
+  pub agrees : Agrees before.left contents
+  pub end : Ending
+  pub code_is : code ≡ code_of end
+  pub done : IsDone (Answer words contents before now) end old new faults faults_new
+  pub run : (g : Graph) (ask : Request) → AsksRun words contents g ask → IsRightRun g ask (ReadFailed words before now) end old new
+  pub answered : (ask : Request) (bytes : List ℕ) → AsksText words contents ask bytes → runs ask.mode ≡ false → IsAnswered ask bytes end old new
+  pub files : KeepsFiles words end before now old new

@@ -1,4 +1,5 @@
 pub mod AnswerLines
 pub mod Answers
+pub mod Listed
 pub mod Headline
 pub mod Stopping

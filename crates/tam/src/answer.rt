@@ -7,21 +7,22 @@ ghost use Rattle.tam.specs.Headline.{IsDone};
 
 use crate::assembly::answer_assembly_text;
 use crate::graph_text::answer_graph_text;
-use crate::status::Status;
 use std::alloc::Global;
 use tam_edge::Sink;
-use tam_input::Input;
+use tam_input::{Ending, Input};
 use tam_words::Mode;
 
 /// Answers the bytes of a job's file.
-pub fn answer<K: Sink>(alloc: Global, input: Input, out: &mut K) -> Status
+pub fn answer<K: Sink>(alloc: Global, input: Input, out: &mut K) -> Ending
     requires few { length input.text.items ≤ most_bytes input.job.mode }
-    ensures done { IsDone (AnswerTo (request_of input.job input.order) input.text.items) result.code
+    ensures done { IsDone (AnswerTo (request_of input.job input.order) input.text.items) result
         (K.taken out.old) (K.taken out.new) (K.faults out.old) (K.faults out.new) }
 {
     let Input { job, order, text } = input;
     match job.mode() {
         Mode::Assemble => answer_assembly_text(alloc, &text, out),
-        _ => answer_graph_text(alloc, &text, &job, order, out),
+        Mode::Graph | Mode::Check | Mode::EmitDg | Mode::Sets | Mode::Parts => {
+            answer_graph_text(alloc, &text, &job, order, out)
+        }
     }
 }

@@ -1,16 +1,17 @@
 // The run of an accepted graph.
 ghost use Rattle.std.specs.Prelude.{◌≡◌, ◌≢◌, ℕ, List};
 ghost use Rattle.tam_words.specs.declared.mode.Mode.TheVariants.{Graph};
+ghost use Rattle.tam_input.specs.declared.ending.Ending.TheVariants.{Done, ResultsMissing};
 ghost use Rattle.tam_input.specs.Inputs.{request_of};
 ghost use Rattle.tam.specs.Answers.{AnswerTo, Spells};
 ghost use Rattle.tam.specs.Headline.{IsDone};
 ghost use Rattle.tam.specs.Stopping.{AnswersStop};
 
 use crate::say::{say, say_no_memory};
-use crate::status::Status;
 use std::alloc::Global;
 use tam_edge::Sink;
 use tam_graph::Accepted;
+use tam_input::Ending;
 use tam_msgs::{Order, Stop};
 use tam_run::{Outcome, run};
 use tam_words::Job;
@@ -22,44 +23,44 @@ pub fn run_graph<K: Sink>(
     job: &Job,
     order: Order,
     out: &mut K,
-) -> Status
+) -> Ending
     requires mode { job.now.mode ≡ Graph }
-    ensures done { (bytes : List ℕ) → Spells bytes graph.now → IsDone (AnswerTo (request_of job.now order) bytes) result.code
+    ensures done { (bytes : List ℕ) → Spells bytes graph.now → IsDone (AnswerTo (request_of job.now order) bytes) result
         (K.taken out.old) (K.taken out.new) (K.faults out.old) (K.faults out.new) }
 {
     let args = job.args();
     if args.len() != graph.params(graph.main()) as usize {
-        return say(b"usage ArgsCount\n", 2, out);
+        return say(b"usage ArgsCount\n", Ending::Usage, out);
     }
     match run(alloc, graph, args, order, job.limits(), out) {
-        Outcome::Quiet { missing } => quiet_status(missing),
+        Outcome::Quiet { missing } => quiet_ending(missing),
         Outcome::Stopped(stop) => answer_stop(stop, out),
-        Outcome::WriteFault => Status { code: 10 },
+        Outcome::WriteFault => Ending::WriteFault,
     }
 }
 
-// The status of a quiet run with so many results missing.
-fn quiet_status(missing: u32) -> Status
-    ensures none { missing ≡ 0 → result.code ≡ 0 }
-    ensures some { missing ≢ 0 → result.code ≡ 4 }
+// How the program ends behind a quiet run with so many results missing.
+fn quiet_ending(missing: u32) -> Ending
+    ensures none { missing ≡ 0 → result ≡ Done }
+    ensures some { missing ≢ 0 → result ≡ ResultsMissing }
 {
     if missing == 0 {
-        Status { code: 0 }
+        Ending::Done
     } else {
-        Status { code: 4 }
+        Ending::ResultsMissing
     }
 }
 
 // Answers a run that stopped.
-fn answer_stop<K: Sink>(stop: Stop, out: &mut K) -> Status
-    ensures stopped { AnswersStop stop result.code (K.taken out.old) (K.taken out.new) (K.faults out.old) (K.faults out.new) }
+fn answer_stop<K: Sink>(stop: Stop, out: &mut K) -> Ending
+    ensures stopped { AnswersStop stop result (K.taken out.old) (K.taken out.new) (K.faults out.old) (K.faults out.new) }
 {
     match stop {
-        Stop::DoubleWrite { .. } => Status { code: 5 },
-        Stop::OutOfRange { .. } => Status { code: 6 },
-        Stop::FramesFull { .. } => Status { code: 7 },
-        Stop::CellsFull { .. } => Status { code: 8 },
-        Stop::BudgetSpent { .. } => Status { code: 9 },
+        Stop::DoubleWrite { .. } => Ending::DoubleWrite,
+        Stop::OutOfRange { .. } => Ending::OutOfRange,
+        Stop::FramesFull { .. } => Ending::FramesFull,
+        Stop::CellsFull { .. } => Ending::CellsFull,
+        Stop::BudgetSpent { .. } => Ending::BudgetSpent,
         Stop::NoMemory => say_no_memory(out),
     }
 }

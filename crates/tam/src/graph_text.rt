@@ -9,11 +9,11 @@ ghost use Rattle.tam.specs.Headline.{IsDone};
 use crate::graph_run::run_graph;
 use crate::refusal::{check_cause_name, read_cause_name, refused_line};
 use crate::say::{say_made, say_no_memory};
-use crate::status::Status;
 use std::alloc::Global;
 use tam_check::{CheckError, check};
 use tam_edge::Sink;
 use tam_graph::Accepted;
+use tam_input::Ending;
 use tam_list::{print_check, print_parts, print_sets};
 use tam_msgs::Order;
 use tam_print::print;
@@ -27,16 +27,20 @@ pub fn answer_graph_text<K: Sink>(
     job: &Job,
     order: Order,
     out: &mut K,
-) -> Status
+) -> Ending
     requires few { length text.now ≤ 1048576 }
     requires graph { reads_graph job.now.mode ≡ true }
-    ensures done { IsDone (AnswerTo (request_of job.now order) text.now) result.code
+    ensures done { IsDone (AnswerTo (request_of job.now order) text.now) result
         (K.taken out.old) (K.taken out.new) (K.faults out.old) (K.faults out.new) }
 {
     match read(alloc, text) {
         Ok(found) => answer_found(alloc, found, job, order, out),
         Err(Refused::At { line, cause }) => {
-            say_made(refused_line(alloc, line, read_cause_name(cause)), 1, out)
+            say_made(
+                refused_line(alloc, line, read_cause_name(cause)),
+                Ending::Refused,
+                out,
+            )
         }
         Err(Refused::NoMemory) => say_no_memory(out),
     }
@@ -49,9 +53,9 @@ fn answer_found<K: Sink>(
     job: &Job,
     order: Order,
     out: &mut K,
-) -> Status
+) -> Ending
     requires graph { reads_graph job.now.mode ≡ true }
-    ensures done { (bytes : List ℕ) → Reads bytes found.graph → found.lines ≡ lines_in bytes → IsDone (AnswerTo (request_of job.now order) bytes) result.code
+    ensures done { (bytes : List ℕ) → Reads bytes found.graph → found.lines ≡ lines_in bytes → IsDone (AnswerTo (request_of job.now order) bytes) result
         (K.taken out.old) (K.taken out.new) (K.faults out.old) (K.faults out.new) }
 {
     let Found { graph, lines } = found;
@@ -59,7 +63,11 @@ fn answer_found<K: Sink>(
         Ok(accepted) => answer_accepted(alloc, &accepted, job, order, out),
         Err((_, CheckError::At { place, cause })) => {
             let line = lines.line(place);
-            say_made(refused_line(alloc, line, check_cause_name(cause)), 1, out)
+            say_made(
+                refused_line(alloc, line, check_cause_name(cause)),
+                Ending::Refused,
+                out,
+            )
         }
         Err((_, CheckError::NoMemory)) => say_no_memory(out),
     }
@@ -72,17 +80,17 @@ fn answer_accepted<K: Sink>(
     job: &Job,
     order: Order,
     out: &mut K,
-) -> Status
+) -> Ending
     requires graph { reads_graph job.now.mode ≡ true }
-    ensures done { (bytes : List ℕ) → Spells bytes graph.now → IsDone (AnswerTo (request_of job.now order) bytes) result.code
+    ensures done { (bytes : List ℕ) → Spells bytes graph.now → IsDone (AnswerTo (request_of job.now order) bytes) result
         (K.taken out.old) (K.taken out.new) (K.faults out.old) (K.faults out.new) }
 {
     match job.mode() {
         Mode::Graph => run_graph(alloc, graph, job, order, out),
-        Mode::Check => say_made(print_check(alloc, graph), 0, out),
-        Mode::EmitDg => say_made(print(alloc, graph.graph()), 0, out),
-        Mode::Sets => say_made(print_sets(alloc, graph), 0, out),
-        Mode::Parts => say_made(print_parts(alloc, graph), 0, out),
+        Mode::Check => say_made(print_check(alloc, graph), Ending::Done, out),
+        Mode::EmitDg => say_made(print(alloc, graph.graph()), Ending::Done, out),
+        Mode::Sets => say_made(print_sets(alloc, graph), Ending::Done, out),
+        Mode::Parts => say_made(print_parts(alloc, graph), Ending::Done, out),
         Mode::Assemble => unreachable!(),
     }
 }

@@ -19,33 +19,33 @@ use std::env;
 use std::io::ErrorKind;
 use std::process::ExitCode;
 use tam_edge::{HostFiles, HostSink};
+use tam_input::Ending;
 use top::tam;
-
-// The system doesn't give the words as text.
-const NO_WORDS: u8 = 13;
-
-const NO_MEMORY: u8 = 11;
 
 fn main(rt: HostRuntime) -> ExitCode {
     let alloc = rt.alloc();
     let args = match env::args(&rt) {
         Ok(args) => args,
-        Err(error) if error.kind() == ErrorKind::OutOfMemory => return ExitCode::from(NO_MEMORY),
-        Err(_) => return ExitCode::from(NO_WORDS),
+        Err(error) if error.kind() == ErrorKind::OutOfMemory => return exit(Ending::NoMemory),
+        Err(_) => return exit(Ending::NoWords),
     };
     let mut words = Vec::new(alloc);
     for word in args.skip(1) {
         if words.push(word).is_err() {
-            return ExitCode::from(NO_MEMORY);
+            return exit(Ending::NoMemory);
         }
     }
     let Ok(for_files) = rt.clone() else {
-        return ExitCode::from(NO_MEMORY);
+        return exit(Ending::NoMemory);
     };
     let Ok(for_sink) = rt.clone() else {
-        return ExitCode::from(NO_MEMORY);
+        return exit(Ending::NoMemory);
     };
     let mut files = HostFiles::new(for_files, alloc);
     let mut out = HostSink::new(for_sink);
     ExitCode::from(tam(alloc, &words, &mut files, &mut out).code)
+}
+
+fn exit(ending: Ending) -> ExitCode {
+    ExitCode::from(ending.code())
 }

@@ -1,38 +1,39 @@
-// A text under a status.
+// A text under an ending.
 ghost use Rattle.std.specs.Prelude.{◌≡◌, ◌≢◌, MatchResult};
+ghost use Rattle.tam_input.specs.declared.ending.Ending.TheVariants.{NoMemory, WriteFault};
 ghost use Rattle.tam_input.specs.Refusing.{no_memory_line};
 ghost use Rattle.tam.specs.Headline.{IsSaid};
 
-use crate::status::Status;
 use tam_edge::{Sink, write_whole};
+use tam_input::Ending;
 
-/// Writes a text, and answers its status, or that of a write fault.
-pub fn say<K: Sink>(text: &[u8], code: u8, out: &mut K) -> Status
-    requires { code ≢ 10 }
-    ensures said { IsSaid code text.now result.code (K.taken out.old) (K.taken out.new) (K.faults out.old) (K.faults out.new) }
+/// Writes a text, and answers the ending, or that of a write fault.
+pub fn say<K: Sink>(text: &[u8], ending: Ending, out: &mut K) -> Ending
+    requires { ending ≢ WriteFault }
+    ensures said { IsSaid ending text.now result (K.taken out.old) (K.taken out.new) (K.faults out.old) (K.faults out.new) }
 {
     match write_whole(out, text) {
-        Ok(()) => Status { code },
-        Err(_) => Status { code: 10 },
+        Ok(()) => ending,
+        Err(_) => Ending::WriteFault,
     }
 }
 
 /// Says that memory was wanted.
-pub fn say_no_memory<K: Sink>(out: &mut K) -> Status
-    ensures said { IsSaid 11 no_memory_line result.code (K.taken out.old) (K.taken out.new) (K.faults out.old) (K.faults out.new) }
+pub fn say_no_memory<K: Sink>(out: &mut K) -> Ending
+    ensures said { IsSaid NoMemory no_memory_line result (K.taken out.old) (K.taken out.new) (K.faults out.old) (K.faults out.new) }
 {
-    say(b"no memory\n", 11, out)
+    say(b"no memory\n", Ending::NoMemory, out)
 }
 
-/// Writes a text that was made, if it was, and answers its status; else says that memory was wanted.
-pub fn say_made<E: Drop, K: Sink>(made: Result<Vec<u8>, E>, code: u8, out: &mut K) -> Status
-    requires { code ≢ 10 }
+/// Writes a text that was made, if it was, and answers the ending; else says that memory was wanted.
+pub fn say_made<E: Drop, K: Sink>(made: Result<Vec<u8>, E>, ending: Ending, out: &mut K) -> Ending
+    requires { ending ≢ WriteFault }
     ensures said { MatchResult made
-        (λ text. IsSaid code text.items result.code (K.taken out.old) (K.taken out.new) (K.faults out.old) (K.faults out.new))
-        (λ _. IsSaid 11 no_memory_line result.code (K.taken out.old) (K.taken out.new) (K.faults out.old) (K.faults out.new)) }
+        (λ text. IsSaid ending text.items result (K.taken out.old) (K.taken out.new) (K.faults out.old) (K.faults out.new))
+        (λ _. IsSaid NoMemory no_memory_line result (K.taken out.old) (K.taken out.new) (K.faults out.old) (K.faults out.new)) }
 {
     match made {
-        Ok(text) => say(&text, code, out),
+        Ok(text) => say(&text, ending, out),
         Err(_) => say_no_memory(out),
     }
 }

@@ -24,6 +24,8 @@ const LARGE: &[u8] = b"dg 1\ncode main\nn = param 0\nA:1 = alloc n\nr = seq n A\
 const MISSING: &[u8] =
     b"dg 1\ncode main\nn = const 1\nA:1 = alloc n\nz = const 0\nv = fetch A z\nx = param 0\ny = add x n\nresult 0 v\nresult 1 y\nend\n";
 
+const NO_CELLS: &[u8] = b"dg 1\ncode main\nn = const 0\nA:1 = alloc n\nresult 0 n\nend\n";
+
 const SPACED: &[u8] = b"dg 1\n# note\ncode  main\n k = const 0xffffffff\nresult 0 k\nend\n";
 
 const CYCLE: &[u8] = b"dg 1\ncode main\na = add b b\nb = add a a\nresult 0 a\nend\n";
@@ -90,6 +92,14 @@ fn graphs_run(rt: HostRuntime) -> Result<(), Fail> {
             text: OPERATORS,
             fail: &[],
             taken: b"result 0 = -1\nresult 1 = 7\nresult 2 = 7\nquiet\nevents 11\nactivations 1\ncells 0\n",
+            status: 0,
+        },
+        // Three vertices fire, and three messages come: the cells that are asked for, the array, the result.
+        Case {
+            words: &["graph", "f"],
+            text: NO_CELLS,
+            fail: &[],
+            taken: b"result 0 = 0\nquiet\nevents 6\nactivations 1\ncells 0\n",
             status: 0,
         },
         Case {
@@ -236,6 +246,14 @@ fn refusals_have_their_line(rt: HostRuntime) -> Result<(), Fail> {
         },
         Case {
             words: &["graph", "f", "--order-file=gone"],
+            text: ADD,
+            fail: &[],
+            taken: b"read fault\n",
+            status: 3,
+        },
+        // An empty name is the name of a file that isn't there.
+        Case {
+            words: &["graph", "f", "--order-file="],
             text: ADD,
             fail: &[],
             taken: b"read fault\n",

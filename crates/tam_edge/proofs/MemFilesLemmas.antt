@@ -31,9 +31,9 @@ module _ (fail : List ℕ) (call : ℕ) (fails : Bool) (tested : (fails ≡ true
   is_not_to_fail not_chosen held (inr missing) = held (NoneNamed-pairs_by reversed_items name entries missing)
 
 -- files in memory after so many calls
-module _ (fail : List ℕ) (calls : ℕ) where
+module _ (fail : List ℕ) (calls ends : ℕ) where
   abbrev memory : List (List ℕ × List ℕ) → List (List ℕ × ℕ) → FilesInMemory
-  memory files faults = record { files = files; fail = fail; calls = calls; faults = faults }
+  memory files faults = record { files = files; fail = fail; calls = calls; ends = ends; faults = faults }
 
   -- with the same files and the same faults they are the same
   pub same_memory : (a b : List (List ℕ × List ℕ)) (m n : List (List ℕ × ℕ)) → a ≡ b → m ≡ n → memory a m ≡ memory b n

@@ -1,5 +1,5 @@
--- Counts of faults: a fault is answered only where the count of what was asked says so.
-use Rattle.std.specs.Prelude.{◌≡◌, ℕ, ◌+◌, ◌-◌, ◌^◌, ◌≤◌, min, Result, Ok, Err}
+-- Counts of faults: a fault is answered only where the count of what was asked says so. And counts of ends that were given.
+use Rattle.std.specs.Prelude.{◌≡◌, ℕ, zero, suc, ◌+◌, ◌-◌, ◌^◌, ◌≤◌, min, Result, Ok, Err}
 use Rattle.tam_edge.specs.declared.files.FileError.{FileError}
 use Rattle.tam_edge.specs.declared.files.FileError.TheVariants.{Failed, NoMemory}
 use Rattle.tam_edge.specs.declared.whole.ReadError.{ReadError}
@@ -22,6 +22,17 @@ abbrev pub CountsRead : {T : Type 0} → ℕ → ℕ → Result T FileError → 
 CountsRead before now (Ok given) = now ≡ before
 CountsRead before now (Err Failed) = CountsFault before now
 CountsRead before now (Err NoMemory) = now ≡ before
+
+-- what a read leaves of the count of ends: it rises by one where the end of a name was given, and else stays
+abbrev pub CountsEnd : ℕ → ℕ → Result ℕ FileError → Type 0
+CountsEnd before now (Ok zero) = now ≡ next_count before
+CountsEnd before now (Ok (suc count)) = now ≡ before
+CountsEnd before now (Err error) = now ≡ before
+
+-- what the reading of a whole file leaves of it: its end was given once, or not at all where it wasn't read whole
+abbrev pub CountsEndWhole : {T E : Type 0} → ℕ → ℕ → Result T E → Type 0
+CountsEndWhole before now (Ok given) = now ≡ next_count before
+CountsEndWhole before now (Err error) = now ≡ before
 
 -- what a write leaves of the count of its sink
 abbrev pub CountsPut : {T E : Type 0} → ℕ → ℕ → Result T E → Type 0

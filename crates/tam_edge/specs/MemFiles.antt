@@ -4,13 +4,15 @@ use Rattle.std.specs.declared.alloc.Global.{Global}
 use Rattle.tam_edge.specs.declared.files.FileError.{FileError}
 use Rattle.tam_edge.specs.declared.files.FileError.TheVariants.{Failed, NoMemory}
 use Rattle.tam_edge.specs.Entries.{Entry, value_of, value_by, IsMissing}
-use Rattle.tam_edge.specs.Faults.{next_count}
+use Rattle.tam_edge.specs.Faults.{next_count, CountsEnd}
 
--- the files in order, each with its name and the bytes left; the numbers of the calls that fail; the calls made; the faults, by name
+-- the files in order, each with its name and the bytes left; the numbers of the calls that fail; the calls made; how often an end was given;
+-- the faults, by name
 pub record FilesInMemory : Type 0 where
   pub files : List (List ℕ × List ℕ)
   pub fail : List ℕ
   pub calls : ℕ
+  pub ends : ℕ
   pub faults : List (List ℕ × ℕ)
 
 -- the bytes of the first file of that name, none where no file has it
@@ -36,6 +38,7 @@ IsToFail memory name = Contains memory.fail (next_count memory.calls) ⊎ IsMiss
 -- The call was not to fail: all that fits in the room was given, and the call is counted.
 pub record GivesAllThatFits (before now : FilesInMemory) (name : List ℕ) (room count : ℕ) : Type 0 where
   pub not_to_fail : ¬ IsToFail before name
+  pub next_end : CountsEnd before.ends now.ends (Ok count)
   pub count_is : count ≡ min (length (bytes_left before name)) room
   pub next_call : now.calls ≡ next_count before.calls
   pub same_fail : now.fail ≡ before.fail
@@ -48,6 +51,7 @@ pub record NotesFault (before now : FilesInMemory) (name : List ℕ) : Type 0 wh
   pub raised : fault_count now name ≡ next_count (fault_count before name)
   pub next_call : now.calls ≡ next_count before.calls
   pub same_fail : now.fail ≡ before.fail
+  pub same_ends : now.ends ≡ before.ends
   pub same_files : now.files ≡ before.files
 
 -- The call was to fail, and memory was wanted to note the name's first fault: nothing at all has changed.

@@ -1,8 +1,15 @@
 -- What the reading of a whole file and the writing of a whole text leave.
 use Rattle.std.specs.Prelude.{◌≡◌, ℕ, ◌+◌, ◌<◌, ◌≤◌, List, ◌++◌, length, Option, None, Some, Result, Ok, Err, [], ⊤}
 use Rattle.std.specs.Io.KnownBytes.{Appends}
+use Rattle.tam_edge.specs.declared.files.FileError.{FileError}
+use Rattle.tam_edge.specs.declared.files.FileError.TheVariants as file
 use Rattle.tam_edge.specs.declared.whole.ReadError.{ReadError}
 use Rattle.tam_edge.specs.declared.whole.ReadError.TheVariants.{Fault, TooLong, NoMemory}
+
+-- why a file isn't read whole, where a read of it gave nothing
+abbrev pub read_error_of : FileError → ReadError
+read_error_of file.Failed = Fault
+read_error_of file.NoMemory = NoMemory
 
 -- told bytes that were left were given whole, and nothing is left
 abbrev pub GivesAll : Option (List ℕ) → Option (List ℕ) → List ℕ → Type 0

@@ -1,6 +1,8 @@
-// The numbers of calls, from 1, of which chosen ones fail.
+// The numbers of calls, from 1, of which chosen ones fail, and of ends that were given.
 ghost use Rattle.std.specs.Prelude.{◌≡◌, ◌≤◌, ◌↔◌, Contains, IsTrue};
-ghost use Rattle.tam_edge.specs.Faults.{next_count};
+ghost use Rattle.tam_edge.specs.Faults.{next_count, CountsEnd};
+
+use crate::FileError;
 
 /// One more, but no more than the last value: the number of the next call, and a count of faults that rose.
 pub fn next_count(count: u64) -> u64
@@ -15,4 +17,15 @@ pub fn is_to_fail(fail: &[u32], call: u64) -> bool
     ensures { IsTrue result ↔ Contains fail.now call }
 {
     fail.iter().any(|number| u64::from(*number) == call)
+}
+
+/// The count of ends after a read: one more where it gave the end.
+pub fn count_end(ends: u64, given: Result<usize, FileError>) -> u64
+    ensures value { CountsEnd ends result given }
+{
+    match given {
+        Ok(0) => next_count(ends),
+        Ok(_) => ends,
+        Err(_) => ends,
+    }
 }

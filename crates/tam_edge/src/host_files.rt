@@ -1,11 +1,11 @@
 // The files of the system. What they hold is not told.
 ghost use Rattle.std.specs.Prelude.{◌≡◌, ◌≢◌, ◌≤◌, List, ℕ, length, None, IfOk};
-ghost use Rattle.tam_edge.specs.Faults.{CountsRead, CountsFault};
+ghost use Rattle.tam_edge.specs.Faults.{CountsRead, CountsEnd, CountsFault};
 ghost use Rattle.tam_edge.specs.Reading.{KeepsPiece};
 ghost use Rattle.tam_edge.specs.Entries.{pairs_by, value_of, NoneNamed, IsFirstNamed};
 ghost use Rattle.tam_edge.specs.HostFiles.{faults_of};
 
-use crate::calls::next_count;
+use crate::calls::{count_end, next_count};
 use crate::entries::position_of;
 use crate::{FileError, Files};
 use std::alloc::Global;
@@ -74,10 +74,8 @@ fn read_opened<R: rt::Files>(
     ensures counted { CountsRead opened.old.faults opened.new.faults result }
     ensures no_memory { KeepsPiece piece.old piece.new result }
 {
-    match open(rt, opened, name) {
-        Ok(()) => opened.read(piece),
-        Err(error) => Err(error),
-    }
+    open(rt, opened, name)?;
+    opened.read(piece)
 }
 
 // The next bytes of the file whose name stands at that place.
@@ -126,20 +124,16 @@ fn add<O: Drop>(
     ensures no_memory { result ≢ Err FileError.Failed }
 {
     let place = opened.len();
-    let Ok(name) = String::from_str(alloc, name) else {
-        return Err(FileError::NoMemory);
-    };
+    let name = String::from_str(alloc, name)?;
     let closed = Opened {
         file: None,
         faults: 0,
     };
-    if opened.push((name, closed)).is_err() {
-        return Err(FileError::NoMemory);
-    }
+    opened.push((name, closed))?;
     Ok(place)
 }
 
-/// The files of the system, seen as the names that were read, each with its count of faults.
+/// The files of the system, seen as the names that were read, each with its count of faults, and how often an end was given.
 ///
 /// A file is opened at the first read of its name, and read on from there.
 #[derive(Drop)]
@@ -147,12 +141,13 @@ pub struct HostFiles<R: rt::Files + Clone + Drop> {
     rt: R,
     alloc: Global,
     opened: Vec<(String, Opened<R::File>)>,
+    ends: u64,
 }
 
 impl<R: rt::Files + Clone + Drop> Model for HostFiles<R> {
-    ghost Value = { List (List ℕ × ℕ) };
+    ghost Value = { List (List ℕ × ℕ) × ℕ };
 
-    ghost view = { λ files. pairs_by (λ o. o.faults) files.opened.items };
+    ghost view = { λ files. (pairs_by (λ o. o.faults) files.opened.items, files.ends) };
 }
 
 impl<R: rt::Files + Clone + Drop> HostFiles<R> {
@@ -160,11 +155,13 @@ impl<R: rt::Files + Clone + Drop> HostFiles<R> {
     pub fn new(rt: R, alloc: Global) -> HostFiles<R>
         ensures untold { (name : List ℕ) → ⟦<HostFiles<R> as Files>⟧.left result name ≡ None }
         ensures faultless { (name : List ℕ) → ⟦<HostFiles<R> as Files>⟧.faults result name ≡ 0 }
+        ensures endless { ⟦<HostFiles<R> as Files>⟧.ends result ≡ 0 }
     {
         HostFiles {
             rt,
             alloc,
             opened: Vec::new(alloc),
+            ends: 0,
         }
     }
 }
@@ -172,10 +169,14 @@ impl<R: rt::Files + Clone + Drop> HostFiles<R> {
 impl<R: rt::Files + Clone + Drop> Files for HostFiles<R> {
     ghost left = { λ files name. None };
 
-    ghost faults = { λ files name. value_of 0 files name };
+    ghost faults = { λ files name. value_of 0 files.0 name };
+
+    ghost ends = { λ files. files.1 };
 
     fn read(&mut self, name: &str, piece: &mut [u8]) -> Result<usize, FileError> {
         let i = place_of(self.alloc, &mut self.opened, name)?;
-        read_at(&self.rt, &mut self.opened, name, i, piece)
+        let given = read_at(&self.rt, &mut self.opened, name, i, piece);
+        self.ends = count_end(self.ends, given);
+        given
     }
 }

@@ -1,13 +1,13 @@
 // Files in memory, of which chosen reads fail.
 ghost use Rattle.std.specs.Prelude.{◌≡◌, ◌≢◌, ◌↔◌, ◌<◌, ◌≤◌, ◌⊎◌, min, List, ℕ, [], ◌++◌, length, map, reverse, take};
 ghost use Rattle.std.specs.Prelude.{Some, IfOk, OnOk, OnErr, IfSome, IfNone, IsTrue};
-ghost use Rattle.tam_edge.specs.Faults.{next_count, CountsRead};
+ghost use Rattle.tam_edge.specs.Faults.{next_count, CountsRead, CountsEnd};
 ghost use Rattle.tam_edge.specs.Reading.{KeepsPiece};
 ghost use Rattle.tam_edge.specs.Entries.{pairs_by, NoneNamed, IsFirstNamed};
 ghost use Rattle.tam_edge.specs.Held.{reversed_items, bytes_of, count_of};
 ghost use Rattle.tam_edge.specs.MemFiles.{FilesInMemory, bytes_left, fault_count, bytes_held, ReadsMemory};
 
-use crate::calls::{is_to_fail, next_count};
+use crate::calls::{count_end, is_to_fail, next_count};
 use crate::entries::position_of;
 use crate::{FileError, Files};
 use std::alloc::{AllocError, Global};
@@ -23,6 +23,7 @@ pub struct MemFiles {
     files: Vec<(String, Vec<u8>)>,
     fail: Vec<u32>,
     calls: u64,
+    ends: u64,
     faults: Vec<(String, u64)>,
 }
 
@@ -33,6 +34,7 @@ impl Model for MemFiles {
       files = pairs_by reversed_items memory.files.items;
       fail = memory.fail.items;
       calls = memory.calls;
+      ends = memory.ends;
       faults = pairs_by (λ count. count) memory.faults.items;
     } };
 }
@@ -43,6 +45,7 @@ impl MemFiles {
         ensures held { result.files ≡ pairs_by (λ bytes. bytes.items) files.items }
         ensures fail { result.fail ≡ fail.items }
         ensures uncalled { result.calls ≡ 0 }
+        ensures endless { result.ends ≡ 0 }
         ensures left { (name : List ℕ) → ⟦<MemFiles as Files>⟧.left result name ≡ Some (bytes_held files.items name) }
         ensures faultless { (name : List ℕ) → ⟦<MemFiles as Files>⟧.faults result name ≡ 0 }
     {
@@ -52,6 +55,7 @@ impl MemFiles {
             files,
             fail,
             calls: 0,
+            ends: 0,
             faults: Vec::new(alloc),
         }
     }
@@ -62,6 +66,8 @@ impl Files for MemFiles {
 
     ghost faults = { fault_count };
 
+    ghost ends = { λ memory. memory.ends };
+
     fn read(&mut self, name: &str, piece: &mut [u8]) -> Result<usize, FileError>
         requires { 0 < length piece.old }
         ensures room { IfOk result (λ n. n ≤ length piece.new) }
@@ -70,6 +76,7 @@ impl Files for MemFiles {
         ensures counted { CountsRead (fault_count self.old name.now) (fault_count self.new name.now) result }
         ensures err { OnErr result (bytes_left self.new name.now ≡ bytes_left self.old name.now) }
         ensures no_memory { KeepsPiece piece.old piece.new result }
+        ensures ended { CountsEnd self.old.ends self.new.ends result }
         ensures other_left { (other : List ℕ) → other ≢ name.now → bytes_left self.new other ≡ bytes_left self.old other }
         ensures other_faults { (other : List ℕ) → other ≢ name.now → fault_count self.new other ≡ fault_count self.old other }
 
@@ -80,15 +87,12 @@ impl Files for MemFiles {
         let fails = is_to_fail(&self.fail, call);
         if let Some(count) = give_unless(fails, &mut self.files, name, piece) {
             self.calls = call;
+            self.ends = count_end(self.ends, Ok(count));
             return Ok(count);
         }
-        match note_fault(self.alloc, &mut self.faults, name) {
-            Ok(()) => {
-                self.calls = call;
-                Err(FileError::Failed)
-            }
-            Err(_) => Err(FileError::NoMemory),
-        }
+        note_fault(self.alloc, &mut self.faults, name)?;
+        self.calls = call;
+        Err(FileError::Failed)
     }
 }
 

@@ -37,16 +37,13 @@ impl MemSink {
     pub fn new(alloc: Global, room: u32, fail: Vec<u32>) -> Result<MemSink, NoMemory>
         ensures { IfOk result (λ sink. sink ≡ record { bytes = []; room = room; fail = fail.items; calls = 0; faults = 0 }) }
     {
-        match Vec::with_capacity(alloc, room as usize) {
-            Ok(bytes) => Ok(MemSink {
-                bytes,
-                room: room as usize,
-                fail,
-                calls: 0,
-                faults: 0,
-            }),
-            Err(_) => Err(NoMemory),
-        }
+        Ok(MemSink {
+            bytes: Vec::with_capacity(alloc, room as usize)?,
+            room: room as usize,
+            fail,
+            calls: 0,
+            faults: 0,
+        })
     }
 
     /// The bytes taken.

@@ -1,11 +1,12 @@
 // A whole file, and a whole text.
 ghost use Rattle.std.specs.Prelude.{◌≡◌, ◌≢◌, ◌≤◌, List, ℕ, length, IfOk, OnOk, OnErr};
 ghost use Rattle.std.specs.Io.KnownBytes.{Appends};
-ghost use Rattle.tam_edge.specs.Faults.{CountsReadWhole, CountsPut};
-ghost use Rattle.tam_edge.specs.Whole.{GivesAll, LeavesSuffix, TellsTooLong, AppendsFront};
+ghost use Rattle.tam_edge.specs.Faults.{CountsReadWhole, CountsEndWhole, CountsPut};
+ghost use Rattle.tam_edge.specs.declared.whole.ReadError.TheVariants.{NoMemory as Wants_memory};
+ghost use Rattle.tam_edge.specs.Whole.{read_error_of, GivesAll, LeavesSuffix, TellsTooLong, AppendsFront};
 
 use crate::{Failed, FileError, Files, Sink};
-use std::alloc::Global;
+use std::alloc::{AllocError, Global};
 use thiserror::Error;
 
 /// Why a file was not read whole.
@@ -17,6 +18,25 @@ pub enum ReadError {
     TooLong,
     #[error("NoMemory")]
     NoMemory,
+}
+
+impl From<FileError> for ReadError {
+    ghost from_gives = { λ from error. error ≡ read_error_of from };
+
+    fn from(error: FileError) -> ReadError {
+        match error {
+            FileError::Failed => ReadError::Fault,
+            FileError::NoMemory => ReadError::NoMemory,
+        }
+    }
+}
+
+impl From<AllocError> for ReadError {
+    ghost from_gives = { λ _ error. error ≡ Wants_memory };
+
+    fn from(error: AllocError) -> ReadError {
+        ReadError::from(FileError::from(error))
+    }
 }
 
 const PIECE: usize = 4096;
@@ -34,8 +54,10 @@ pub fn read_whole<F: Files>(
     ensures all { IfOk result (λ bytes. GivesAll (F.left files.old name.now) (F.left files.new name.now) bytes.items) }
 
     // Told bytes are too long exactly where they are more than the limit. A fault is told by the name's count.
+    // The end is given once where the file was read whole, and never where it wasn't: nothing is read behind it.
     ensures too_long { TellsTooLong (F.left files.old name.now) limit result }
     ensures counted { CountsReadWhole (F.faults files.old name.now) (F.faults files.new name.now) result }
+    ensures ended { CountsEndWhole (F.ends files.old) (F.ends files.new) result }
     ensures err { OnErr result (LeavesSuffix (F.left files.old name.now) (F.left files.new name.now) limit) }
 
     // No other name changes.
@@ -48,18 +70,11 @@ pub fn read_whole<F: Files>(
     'pieces: while bytes.len() <= limit {
         let room = (limit + 1 - bytes.len()).min(PIECE);
         let piece = &mut buffer[..room];
-        match files.read(name, piece) {
-            Ok(count) => {
-                if count == 0 {
-                    return Ok(bytes);
-                }
-                if bytes.extend_from_slice(&buffer[..count]).is_err() {
-                    return Err(ReadError::NoMemory);
-                }
-            }
-            Err(FileError::Failed) => return Err(ReadError::Fault),
-            Err(FileError::NoMemory) => return Err(ReadError::NoMemory),
+        let count = files.read(name, piece)?;
+        if count == 0 {
+            return Ok(bytes);
         }
+        bytes.extend_from_slice(&buffer[..count])?;
     }
     Err(ReadError::TooLong)
 }

@@ -1,2 +1,2 @@
-pub mod Refused
-pub mod ReadOut
+pub mod Contents
+pub mod Found

@@ -1,2 +1,4 @@
+pub mod Told
+pub mod Endings
 pub mod Refusing
 pub mod Inputs

@@ -1,6 +1,6 @@
 -- What is told in place of an answer to a file: faults of the words, of reading, files that are too long, and want of memory.
 -- The rule in words: docs/FORMATS.md, "Command line".
-use Rattle.std.specs.Prelude.{ℕ, ◌≡◌, ◌<◌, ◌≤◌, ◌⊎◌, Bool, true, false, List, [], ◌∷◌, ◌++◌, length, codes, Option, Some, None, Ok, Err}
+use Rattle.std.specs.Prelude.{ℕ, ◌≡◌, ◌+◌, ◌<◌, ◌≤◌, Bool, true, false, List, [], ◌++◌, length, codes, Option, Some, None, Ok, Err}
 use Rattle.tam_word.specs.Lists.{same_bytes}
 use Rattle.tam_msgs.specs.declared.item.Item.{Item}
 use Rattle.tam_msgs.specs.Orders.{order_of}
@@ -9,10 +9,13 @@ use Rattle.tam_words.specs.declared.mode.Mode.{Mode}
 use Rattle.tam_words.specs.declared.mode.Mode.TheVariants as mode
 use Rattle.tam_words.specs.declared.usage_cause.UsageCause.{UsageCause}
 use Rattle.tam_words.specs.declared.usage_cause.UsageCause.TheVariants.{Order as Bad_order}
-use Rattle.tam_words.specs.Names.{cause_name}
+use Rattle.tam_words.specs.Names.{cause_name, reads_file}
 use Rattle.tam_words.specs.Jobs.{Asked, Job, Usage, JobParts}
+use Rattle.tam_input.specs.declared.ending.Ending.{Ending}
+use Rattle.tam_input.specs.declared.ending.Ending.TheVariants as ending
 use Rattle.tam_input.specs.declared.refusal.Refusal.{Refusal}
 use Rattle.tam_input.specs.declared.refusal.Refusal.TheVariants as refusal
+use Rattle.tam_input.specs.Told.{Told, HasFailed, GivesEnds, Contents}
 
 -- ---- lines
 
@@ -32,12 +35,12 @@ too_long_line = line (codes "refused too long")
 abbrev pub no_memory_line : List ℕ
 no_memory_line = line (codes "no memory")
 
--- the status of a refusal
-abbrev pub refusal_status : Refusal → ℕ
-refusal_status refusal.TooLong = 1
-refusal_status (refusal.Usage cause) = 2
-refusal_status refusal.NotRead = 3
-refusal_status refusal.NoMemory = 11
+-- how the program ends after a refusal
+abbrev pub refusal_ending : Refusal → Ending
+refusal_ending refusal.TooLong = ending.Refused
+refusal_ending (refusal.Usage cause) = ending.Usage
+refusal_ending refusal.NotRead = ending.ReadFault
+refusal_ending refusal.NoMemory = ending.NoMemory
 
 -- and its line
 abbrev pub refusal_line : Refusal → List ℕ
@@ -48,66 +51,77 @@ refusal_line refusal.NoMemory = no_memory_line
 
 -- ---- files
 
--- the bytes that are left of each name, where they are told
-abbrev pub Files : Type 0
-Files = List ℕ → Option (List ℕ)
-
 -- the most bytes of an order file
 abbrev pub most_order_bytes : ℕ
 most_order_bytes = 1048576
 
 -- the most bytes of the text that a mode reads
 abbrev pub most_bytes : Mode → ℕ
+most_bytes mode.Graph = 1048576
+most_bytes mode.Check = 1048576
+most_bytes mode.EmitDg = 1048576
+most_bytes mode.Sets = 1048576
+most_bytes mode.Parts = 1048576
 most_bytes mode.Assemble = 67108864
-most_bytes m = 1048576
 
--- these bytes are left, and no more than so many
-pub record IsLeft (left : Option (List ℕ)) (most : ℕ) (bytes : List ℕ) : Type 0 where
-  pub told : left ≡ Some bytes
-  pub few : length bytes ≤ most
+-- a file, but for one that was read already
+abbrev pub unless_read : Option (List ℕ) → List ℕ → Option (List ℕ)
+unless_read None name = Some name
+unless_read (Some file) name = elim (same_bytes file name) [ true ↦ None | false ↦ Some name ]
 
--- nothing, where bytes are told
-abbrev pub none_left : Option (List ℕ) → Option (List ℕ)
-none_left None = None
-none_left (Some bytes) = Some []
+-- the file whose text a job reads: that of its name, unless its mode reads none or it was read as the order file, which leaves nothing of it
+abbrev pub text_file : JobParts → Option (List ℕ)
+text_file job = elim (reads_file job.mode) [ true ↦ unless_read job.order_file job.name | false ↦ None ]
 
--- what is left of a name once a file was read, if one was
-abbrev pub left_behind : Option (List ℕ) → Files → Files
-left_behind None left name = left name
-left_behind (Some file) left name = elim (same_bytes file name) [ true ↦ none_left (left name) | false ↦ left name ]
+-- the bytes of a file, none where there is no file
+abbrev pub bytes_of : Contents → Option (List ℕ) → List ℕ
+bytes_of contents None = []
+bytes_of contents (Some file) = contents file
 
--- what is left of the job's file once its order file was read
-abbrev pub input_of : JobParts → Files → Option (List ℕ)
-input_of job left = left_behind job.order_file left job.name
+-- the text that a job reads
+abbrev pub text_of : JobParts → Contents → List ℕ
+text_of job contents = bytes_of contents (text_file job)
+
+-- how many files there are, of at most one
+abbrev pub file_count : Option (List ℕ) → ℕ
+file_count None = 0
+file_count (Some file) = 1
+
+-- how many files a job reads
+abbrev pub files_read : JobParts → ℕ
+files_read job = file_count (text_file job) + file_count job.order_file
+
+-- how many files are read at most
+abbrev pub most_files : Asked → ℕ
+most_files (Job job) = files_read job
+most_files (Usage cause) = 0
 
 -- the order list of a job: that of its option, or the one in its order file
-pub data IsOrder (job : JobParts) (left : Files) : List Item → Type 0 where
-  from_words : job.order_file ≡ None → IsOrder job left job.order
-  from_file : {file bytes : List ℕ} {order : List Item} → job.order_file ≡ Some file → IsLeft (left file) most_order_bytes bytes
-      → order_of bytes ≡ Ok order → IsOrder job left order
-
--- the content of one of the job's files isn't told
-abbrev pub IsUntold : JobParts → Files → Type 0
-IsUntold job left = ((file : List ℕ) × (job.order_file ≡ Some file) × (left file ≡ None)) ⊎ (left job.name ≡ None)
+pub data IsOrder (job : JobParts) (contents : Contents) : List Item → Type 0 where
+  from_words : job.order_file ≡ None → IsOrder job contents job.order
+  from_file : {file : List ℕ} {order : List Item} → job.order_file ≡ Some file → length (contents file) ≤ most_order_bytes
+      → order_of (contents file) ≡ Ok order → IsOrder job contents order
 
 -- ---- why a job isn't answered
 
--- by what the words ask for and by what is left of the files, the refusal that is told before the job's file is looked into
-pub data Refuses (ask : Asked) (left : Files) : Refusal → Type 0 where
+-- by what the words ask for, by the contents of the files and by what reading them did, the refusal that is told before the job's text is looked into
+pub data Refuses (ask : Asked) (contents : Contents) (before now : Told) : Refusal → Type 0 where
   -- a fault of the words
-  usage : {cause : UsageCause} → ask ≡ Usage cause → Refuses ask left (refusal.Usage cause)
-  -- a read failed
-  not_read : {job : JobParts} → ask ≡ Job job → Refuses ask left refusal.NotRead
-  -- the order file holds too many bytes
-  long_order : {job : JobParts} {file bytes : List ℕ} → ask ≡ Job job → job.order_file ≡ Some file → left file ≡ Some bytes
-      → most_order_bytes < length bytes → Refuses ask left refusal.TooLong
+  usage : {cause : UsageCause} → ask ≡ Usage cause → GivesEnds before now 0 → Refuses ask contents before now (refusal.Usage cause)
+  -- a read of the order file failed, before its end
+  order_failed : {job : JobParts} {file : List ℕ} → ask ≡ Job job → job.order_file ≡ Some file → HasFailed before now file → GivesEnds before now 0
+      → Refuses ask contents before now refusal.NotRead
+  -- it holds too many bytes
+  long_order : {job : JobParts} {file : List ℕ} → ask ≡ Job job → job.order_file ≡ Some file → most_order_bytes < length (contents file)
+      → GivesEnds before now 0 → Refuses ask contents before now refusal.TooLong
   -- it holds no order list
-  no_order : {job : JobParts} {file bytes : List ℕ} {item : ℕ} → ask ≡ Job job → job.order_file ≡ Some file
-      → IsLeft (left file) most_order_bytes bytes → order_of bytes ≡ Err item → Refuses ask left (refusal.Usage Bad_order)
-  -- the job's file holds too many bytes
-  too_long : {job : JobParts} {order : List Item} {bytes : List ℕ} → ask ≡ Job job → IsOrder job left order → input_of job left ≡ Some bytes
-      → most_bytes job.mode < length bytes → Refuses ask left refusal.TooLong
+  no_order : {job : JobParts} {file : List ℕ} {item : ℕ} → ask ≡ Job job → job.order_file ≡ Some file → length (contents file) ≤ most_order_bytes
+      → order_of (contents file) ≡ Err item → GivesEnds before now 1 → Refuses ask contents before now (refusal.Usage Bad_order)
+  -- there is an order list, and a read of the job's file failed, before its end
+  text_failed : {job : JobParts} {order : List Item} {file : List ℕ} → ask ≡ Job job → IsOrder job contents order → text_file job ≡ Some file
+      → HasFailed before now file → GivesEnds before now (file_count job.order_file) → Refuses ask contents before now refusal.NotRead
+  -- or it holds too many bytes
+  too_long : {job : JobParts} {order : List Item} {file : List ℕ} → ask ≡ Job job → IsOrder job contents order → text_file job ≡ Some file
+      → most_bytes job.mode < length (contents file) → GivesEnds before now (file_count job.order_file) → Refuses ask contents before now refusal.TooLong
   -- memory was wanted
-  wanted : Refuses ask left refusal.NoMemory
-  -- of a file whose content isn't told nothing more is said
-  untold : {job : JobParts} {refused : Refusal} → ask ≡ Job job → IsUntold job left → Refuses ask left refused
+  wanted : (n : ℕ) → n ≤ most_files ask → GivesEnds before now n → Refuses ask contents before now refusal.NoMemory

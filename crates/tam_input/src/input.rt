@@ -1,15 +1,18 @@
 // What is read before a job is answered: its words, its order file and its own file.
-ghost use Rattle.std.specs.Prelude.{◌≡◌, ◌≤◌, ◌⊎◌, [], length, map, string_bytes, Some, IfOk, IfErr};
+ghost use Rattle.std.specs.Prelude.{◌≡◌, ◌≤◌, [], length, map, string_bytes, Some, None, IfSome, IfNone, IfOk, IfErr};
+ghost use Rattle.tam_edge.specs.Faults.{CountsEndWhole};
 ghost use Rattle.tam_words.specs.Jobs.{asked, Job as Asks};
-ghost use Rattle.tam_input.specs.Refusing.{IsOrder, IsUntold, Refuses, most_bytes};
-ghost use Rattle.tam_input.specs.Inputs.{IsContent, IsInput, IsFault, IsReadOut, Names, NamesFile, KeepsNamed, ReadsOut};
-ghost use Rattle.tam_input.specs.Inputs.{FollowsOrder, RefusesFile, IsOrderIn, RefusesOrder, request_of};
+ghost use Rattle.tam_input.specs.Told.{told, ForSome, GivesEnds, OfSome};
+ghost use Rattle.tam_input.specs.Refusing.{IsOrder, Refuses, file_count, most_bytes, text_file, unless_read};
+ghost use Rattle.tam_input.specs.Inputs.{IsInput, IsFault, IsReadOut, Names, NamesFile, KeepsNamed, ReadsOut, request_of};
+ghost use Rattle.tam_input.specs.Inputs.{RefusesFile, IsTextOf, RefusesText, IsOrderIn, RefusesOrder};
 
 use crate::Refusal;
 use std::alloc::Global;
-use tam_edge::{Files, ReadError, read_whole};
-use tam_msgs::{Order, OrderError};
-use tam_words::{Job, Mode, UsageCause, WordsError, read_words};
+use tam_edge::{Files, read_whole};
+use tam_msgs::Order;
+use tam_text::is_same;
+use tam_words::{Job, Mode, read_words};
 
 // The most bytes of an order file and of a graph's text.
 const MOST_BYTES: u32 = 1_048_576;
@@ -25,8 +28,8 @@ pub struct Input {
     pub text: Vec<u8>,
 }
 
-/// Reads what the words ask for: the order file, where one is named, and then the job's file. Where they are one, the second holds what the first
-/// left of it, which is nothing.
+/// Reads what the words ask for: the order file, where one is named, and then the job's file, where its mode reads one. Where they are one, it is
+/// read once, and the second holds what the first left of it, which is nothing.
 ///
 /// docs/FORMATS.md, "Command line".
 pub fn read_input<F: Files>(
@@ -34,43 +37,46 @@ pub fn read_input<F: Files>(
     words: &[String],
     files: &mut F,
 ) -> Result<Input, Refusal>
-    ensures found { IfOk result (λ input. IsInput (asked (map string_bytes words.now)) (F.left files.old) (request_of input.job input.order) input.text.items) }
+    // Some bytes of each file, which agree with all that is told, are what was read, or what is refused.
+    ensures found { IfOk result (λ input. ForSome (F.left files.old) (λ contents. IsInput (asked (map string_bytes words.now)) contents
+        (told F.left F.faults F.ends files.old) (told F.left F.faults F.ends files.new) (request_of input.job input.order) input.text.items)) }
     ensures few { IfOk result (λ input. length input.text.items ≤ most_bytes input.job.mode) }
-    ensures refused { IfErr result (Refuses (asked (map string_bytes words.now)) (F.left files.old)) }
+    ensures refused { IfErr result (λ refusal. ForSome (F.left files.old) (λ contents. Refuses (asked (map string_bytes words.now)) contents
+        (told F.left F.faults F.ends files.old) (told F.left F.faults F.ends files.new) refusal)) }
 
     // Nothing changes of a file that isn't named, and what is answered was read to its end.
-    ensures files { KeepsNamed (Names (asked (map string_bytes words.now))) (F.left files.old) (F.left files.new) (F.faults files.old) (F.faults files.new) (IsFault result) }
+    ensures files { KeepsNamed (Names (asked (map string_bytes words.now))) (told F.left F.faults F.ends files.old) (told F.left F.faults F.ends files.new) (IsFault result) }
     ensures read_out { IfOk result (λ _. ReadsOut (Names (asked (map string_bytes words.now))) (F.left files.old) (F.left files.new)) }
 {
-    let job = match read_words(alloc, words) {
-        Ok(job) => job,
-        Err(WordsError::Usage(cause)) => return Err(Refusal::Usage(cause)),
-        Err(WordsError::NoMemory) => return Err(Refusal::NoMemory),
-    };
+    let job = read_words(alloc, words)?;
     read_job(alloc, job, files)
 }
 
 // Reads the files of a job.
 fn read_job<F: Files>(alloc: Global, job: Job, files: &mut F) -> Result<Input, Refusal>
-    ensures found { IfOk result (λ input. IsInput (Asks job) (F.left files.old) (request_of input.job input.order) input.text.items) }
+    ensures found { IfOk result (λ input. ForSome (F.left files.old) (λ contents. IsInput (Asks job) contents
+        (told F.left F.faults F.ends files.old) (told F.left F.faults F.ends files.new) (request_of input.job input.order) input.text.items)) }
     ensures few { IfOk result (λ input. length input.text.items ≤ most_bytes input.job.mode) }
-    ensures refused { IfErr result (Refuses (Asks job) (F.left files.old)) }
-    ensures files { KeepsNamed (NamesFile job) (F.left files.old) (F.left files.new) (F.faults files.old) (F.faults files.new) (IsFault result) }
+    ensures refused { IfErr result (λ refusal. ForSome (F.left files.old) (λ contents. Refuses (Asks job) contents
+        (told F.left F.faults F.ends files.old) (told F.left F.faults F.ends files.new) refusal)) }
+    ensures files { KeepsNamed (NamesFile job) (told F.left F.faults F.ends files.old) (told F.left F.faults F.ends files.new) (IsFault result) }
     ensures read_out { IfOk result (λ _. ReadsOut (NamesFile job) (F.left files.old) (F.left files.new)) }
 {
     let mut job = job;
     let order = read_order(alloc, &mut job, files)?;
-    let text = read_file(alloc, job.name(), most_bytes(job.mode()), files)?;
+    let text = read_text(alloc, &job, files)?;
     Ok(Input { job, order, text })
 }
 
 // The order list of a job. The empty one is left in it.
 fn read_order<F: Files>(alloc: Global, job: &mut Job, files: &mut F) -> Result<Order, Refusal>
     ensures kept { job.new ≡ record job.old { order = [] } }
-    ensures found { IfOk result (λ order. IsUntold job.old (F.left files.old) ⊎ IsOrder job.old (F.left files.old) order) }
-    ensures refused { IfErr result (Refuses (Asks job.old) (F.left files.old)) }
-    ensures files { KeepsNamed (λ file. job.old.order_file ≡ Some file) (F.left files.old) (F.left files.new) (F.faults files.old) (F.faults files.new) (IsFault result) }
-    ensures follows { IfOk result (λ _. FollowsOrder job.old (F.left files.old) (F.left files.new)) }
+    ensures found { IfOk result (λ order. ForSome (F.left files.old) (λ contents. IsOrder job.old contents order)) }
+    ensures refused { IfErr result (λ refusal. ForSome (F.left files.old) (λ contents. Refuses (Asks job.old) contents
+        (told F.left F.faults F.ends files.old) (told F.left F.faults F.ends files.new) refusal)) }
+    ensures ended { IfOk result (λ _. GivesEnds (told F.left F.faults F.ends files.old) (told F.left F.faults F.ends files.new) (file_count job.old.order_file)) }
+    ensures files { KeepsNamed (λ file. job.old.order_file ≡ Some file) (told F.left F.faults F.ends files.old) (told F.left F.faults F.ends files.new) (IsFault result) }
+    ensures read_out { IfOk result (λ _. ReadsOut (λ file. job.old.order_file ≡ Some file) (F.left files.old) (F.left files.new)) }
 {
     let order = job.take_order();
     match job.order_file() {
@@ -83,14 +89,54 @@ fn read_order<F: Files>(alloc: Global, job: &mut Job, files: &mut F) -> Result<O
 fn read_order_file<F: Files>(alloc: Global, file: &str, files: &mut F) -> Result<Order, Refusal>
     ensures found { IfOk result (λ order. IsOrderIn (F.left files.old file.now) order) }
     ensures read_out { IfOk result (λ _. IsReadOut (F.left files.old file.now) (F.left files.new file.now)) }
-    ensures refused { IfErr result (RefusesOrder (F.left files.old file.now)) }
-    ensures files { KeepsNamed (λ other. file.now ≡ other) (F.left files.old) (F.left files.new) (F.faults files.old) (F.faults files.new) (IsFault result) }
+    ensures refused { IfErr result (λ refusal. RefusesOrder (told F.left F.faults F.ends files.old) (told F.left F.faults F.ends files.new) file.now refusal) }
+    ensures ended { IfOk result (λ _. GivesEnds (told F.left F.faults F.ends files.old) (told F.left F.faults F.ends files.new) 1) }
+    ensures files { KeepsNamed (λ other. file.now ≡ other) (told F.left F.faults F.ends files.old) (told F.left F.faults F.ends files.new) (IsFault result) }
 {
     let text = read_file(alloc, file, MOST_BYTES, files)?;
-    match Order::read(alloc, &text) {
-        Ok(order) => Ok(order),
-        Err(OrderError::Bad { .. }) => Err(Refusal::Usage(UsageCause::Order)),
-        Err(OrderError::NoMemory) => Err(Refusal::NoMemory),
+    Ok(Order::read(alloc, &text)?)
+}
+
+// The text of a job whose order list was read.
+fn read_text<F: Files>(alloc: Global, job: &Job, files: &mut F) -> Result<Vec<u8>, Refusal>
+    ensures few { IfOk result (λ text. length text.items ≤ most_bytes job.now.mode) }
+    ensures content { IfOk result (λ text. IsTextOf (F.left files.old) (text_file job.now) text.items) }
+    ensures read_out { IfOk result (λ _. ReadsOut (λ file. text_file job.now ≡ Some file) (F.left files.old) (F.left files.new)) }
+    ensures refused { IfErr result (λ refusal. RefusesText (told F.left F.faults F.ends files.old) (told F.left F.faults F.ends files.new) (text_file job.now) (most_bytes job.now.mode) refusal) }
+    ensures ended { IfOk result (λ _. GivesEnds (told F.left F.faults F.ends files.old) (told F.left F.faults F.ends files.new) (file_count (text_file job.now))) }
+    ensures endless { IfErr result (λ _. GivesEnds (told F.left F.faults F.ends files.old) (told F.left F.faults F.ends files.new) 0) }
+    ensures files { KeepsNamed (λ file. text_file job.now ≡ Some file) (told F.left F.faults F.ends files.old) (told F.left F.faults F.ends files.new) (IsFault result) }
+{
+    match text_file(job) {
+        Some(file) => read_file(alloc, file, most_bytes(job.mode()), files),
+        None => Ok(Vec::new(alloc)),
+    }
+}
+
+// The file whose text a job reads, behind its order file.
+fn text_file(job: &Job) -> Option<&str>
+    ensures found { IfSome result (λ file. text_file job.now ≡ Some file.now) }
+    ensures absent { IfNone result (text_file job.now ≡ None) }
+{
+    if !job.mode().reads_file() {
+        return None;
+    }
+    let name = job.name();
+    match job.order_file() {
+        Some(file) => unless_same(file, name),
+        None => Some(name),
+    }
+}
+
+// A file, if it isn't the one that was read.
+fn unless_same<'a>(read: &str, name: &'a str) -> Option<&'a str>
+    ensures found { IfSome result (λ file. unless_read (Some read.now) name.now ≡ Some file.now) }
+    ensures absent { IfNone result (unless_read (Some read.now) name.now ≡ None) }
+{
+    if is_same(read.as_bytes(), name.as_bytes()) {
+        None
+    } else {
+        Some(name)
     }
 }
 
@@ -99,8 +145,8 @@ fn most_bytes(mode: Mode) -> u32
     ensures value { result ≡ most_bytes mode }
 {
     match mode {
+        Mode::Graph | Mode::Check | Mode::EmitDg | Mode::Sets | Mode::Parts => MOST_BYTES,
         Mode::Assemble => MOST_ASSEMBLY_BYTES,
-        _ => MOST_BYTES,
     }
 }
 
@@ -112,15 +158,11 @@ fn read_file<F: Files>(
     files: &mut F,
 ) -> Result<Vec<u8>, Refusal>
     ensures few { IfOk result (λ bytes. length bytes.items ≤ most) }
-    ensures content { IfOk result (λ bytes. IsContent (F.left files.old file.now) bytes.items) }
+    ensures content { IfOk result (λ bytes. OfSome (F.left files.old file.now) (λ content. bytes.items ≡ content)) }
     ensures read_out { IfOk result (λ _. IsReadOut (F.left files.old file.now) (F.left files.new file.now)) }
-    ensures refused { IfErr result (RefusesFile (F.left files.old file.now) most) }
-    ensures files { KeepsNamed (λ other. file.now ≡ other) (F.left files.old) (F.left files.new) (F.faults files.old) (F.faults files.new) (IsFault result) }
+    ensures refused { IfErr result (λ refusal. RefusesFile (told F.left F.faults F.ends files.old) (told F.left F.faults F.ends files.new) file.now most refusal) }
+    ensures ended { CountsEndWhole (F.ends files.old) (F.ends files.new) result }
+    ensures files { KeepsNamed (λ other. file.now ≡ other) (told F.left F.faults F.ends files.old) (told F.left F.faults F.ends files.new) (IsFault result) }
 {
-    match read_whole(alloc, files, file, most) {
-        Ok(bytes) => Ok(bytes),
-        Err(ReadError::Fault) => Err(Refusal::NotRead),
-        Err(ReadError::TooLong) => Err(Refusal::TooLong),
-        Err(ReadError::NoMemory) => Err(Refusal::NoMemory),
-    }
+    Ok(read_whole(alloc, files, file, most)?)
 }

@@ -1,8 +1,12 @@
 // What is told in place of an answer.
 ghost use Rattle.std.specs.Prelude.{◌≡◌};
-ghost use Rattle.tam_input.specs.Refusing.{refusal_line, refusal_status, usage_line};
+ghost use Rattle.tam_input.specs.Inputs.{refusal_of, refusal_of_order, refusal_of_words};
+ghost use Rattle.tam_input.specs.Refusing.{refusal_line, refusal_ending, usage_line};
 
-use tam_words::UsageCause;
+use crate::Ending;
+use tam_edge::ReadError;
+use tam_msgs::OrderError;
+use tam_words::{UsageCause, WordsError};
 
 /// What is told in place of an answer: a fault of the words or of the order file, a file of too many bytes, a read that failed, or
 /// want of memory, which may hide each of the others.
@@ -16,16 +20,50 @@ pub enum Refusal {
     NoMemory,
 }
 
+impl From<WordsError> for Refusal {
+    ghost from_gives = { λ from refusal. refusal ≡ refusal_of_words from };
+
+    fn from(error: WordsError) -> Refusal {
+        match error {
+            WordsError::Usage(cause) => Refusal::Usage(cause),
+            WordsError::NoMemory => Refusal::NoMemory,
+        }
+    }
+}
+
+impl From<OrderError> for Refusal {
+    ghost from_gives = { λ from refusal. refusal ≡ refusal_of_order from };
+
+    fn from(error: OrderError) -> Refusal {
+        match error {
+            OrderError::Bad { .. } => Refusal::Usage(UsageCause::Order),
+            OrderError::NoMemory => Refusal::NoMemory,
+        }
+    }
+}
+
+impl From<ReadError> for Refusal {
+    ghost from_gives = { λ from refusal. refusal ≡ refusal_of from };
+
+    fn from(error: ReadError) -> Refusal {
+        match error {
+            ReadError::Fault => Refusal::NotRead,
+            ReadError::TooLong => Refusal::TooLong,
+            ReadError::NoMemory => Refusal::NoMemory,
+        }
+    }
+}
+
 impl Refusal {
-    /// The status that the program ends with.
-    pub fn status(self) -> u8
-        ensures value { result ≡ refusal_status self }
+    /// How the program ends.
+    pub fn ending(self) -> Ending
+        ensures value { result ≡ refusal_ending self }
     {
         match self {
-            Refusal::TooLong => 1,
-            Refusal::Usage(_) => 2,
-            Refusal::NotRead => 3,
-            Refusal::NoMemory => 11,
+            Refusal::TooLong => Ending::Refused,
+            Refusal::Usage(_) => Ending::Usage,
+            Refusal::NotRead => Ending::ReadFault,
+            Refusal::NoMemory => Ending::NoMemory,
         }
     }
 

@@ -11,7 +11,7 @@ use Rattle.tam_msgs.specs.declared.message.Message.{Message}
 use Rattle.tam_msgs.specs.declared.choice.Choice.{Choice}
 use Rattle.tam_msgs.specs.declared.choice.Choice.TheVariants.{Quiet as Choose_quiet, Run as Choose_run, Deliver as Choose_delivery}
 use Rattle.tam_msgs.specs.Runs.{End, Quiet, Budget_spent, Outcome, Next, Ended, run_from, choice}
-use Rattle.tam_flow.specs.Worlds.{Delivery, Went, Printed, Faulted, delivered, fired}
+use Rattle.tam_world.specs.Worlds.{Delivery, Went, Printed, Faulted, delivered, fired}
 use Rattle.tam_eval.specs.GraphRuns.{GraphState, graph_step, chosen, counted, fired_first, after_effect, after_delivery, delivered_unless, delivered_at, refusal, some_ready}
 
 -- the event printed further words behind those before, and was one more, which the budget had room for

@@ -9,8 +9,8 @@ use Rattle.tam_msgs.specs.declared.item.Item.{Item}
 use Rattle.tam_msgs.specs.declared.limits.Limits.{Limits}
 use Rattle.tam_msgs.specs.Messages.{AreLimits}
 use Rattle.tam_msgs.specs.Runs.{run_from, End, Quiet, Double_write, Out_of_range, Frames_full, Cells_full, Budget_spent, Wild, Trap}
-use Rattle.tam_flow.specs.Worlds.{opening}
-use Rattle.tam_flow.specs.Journals.{State, Event, initial, is_legal, state_after}
+use Rattle.tam_world.specs.Worlds.{opening}
+use Rattle.tam_flow.specs.Journals.{State, Event, initial, is_legal, state_after, on_their_way}
 use Rattle.tam_flow.specs.JournalLaws.{IsJournal}
 use Rattle.tam_flow.proofs.JournalsReached.{journals-reached}
 use Rattle.tam_eval.specs.GraphRuns.{GraphState, graph_step, graph_opening, graph_told, joins, nothing_begun}
@@ -21,7 +21,9 @@ use Rattle.tam_eval.proofs.Running.{EndFits, EndGoes, run-goes}
 use Rattle.tam_eval.proofs.Charges.{Charged}
 use Rattle.tam_eval.proofs.Instances.{charged-is}
 use Rattle.tam_eval.proofs.Quiet.{none-follows}
-use Rattle.tam_run.proofs.RightJournals.{BearsOut, IsBorneOut}
+use Rattle.tam_flow.specs.BorneOut.{BearsOut, IsBorneOut}
+use Rattle.tam_flow.proofs.JournalResults.{in-contains}
+use Rattle.tam_msgs.specs.declared.message.Message.TheVariants.{Frame as Begin, Cells as Make}
 
 module _ (g : Graph) (args : List ℕ) (order : List Item) (limits : Limits) (accepted : IsAccepted g) (arguments : AreArguments g args)
     (ranges : AreLimits limits) where
@@ -74,8 +76,16 @@ module _ (g : Graph) (args : List ℕ) (order : List Item) (limits : Limits) (ac
   }
   bears-out (Double_write a b) made f = f
   bears-out (Out_of_range a i l) made f = f
-  bears-out (Frames_full n) made (whole, may, e, l, way) = (e, l, way)
-  bears-out (Cells_full u l) made (whole, may, e, k, way) = (e, k, way)
+  bears-out (Frames_full n) made (whole, may, e, l, way) = (
+    e,
+    omega (arith, l),
+    (way.0, way.1, way.2, in-contains (Begin way.0 way.1 way.2) (on_their_way (state_after g (singles g) args goes.events)) way.3),
+  )
+  bears-out (Cells_full u l) made (whole, may, e, k, way) = (
+    e,
+    k,
+    (way.0, way.1, in-contains (Make l way.0 way.1) (on_their_way (state_after g (singles g) args goes.events)) way.2),
+  )
   bears-out (Budget_spent n) made (whole, may, e, k) = (e, k)
   bears-out (Wild what n) made f = absurd f
   bears-out (Trap pc cause) made f = absurd f

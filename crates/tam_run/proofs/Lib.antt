@@ -3,12 +3,6 @@ pub mod Following
 pub mod Whole
 pub mod LastLines
 pub mod Events
-pub mod OutsideFirings
-pub mod OutsideWords
-pub mod RuleCounts
-pub mod JournalResults
-pub mod JournalCauses
-pub mod RightJournals
 pub mod GraphJournals
 pub mod QuietRuns
 pub mod RoomExample

@@ -9,11 +9,11 @@ use Rattle.tam_fire.specs.FiringRules.{Result}
 use Rattle.tam_msgs.specs.declared.limits.Limits.{Limits}
 use Rattle.tam_msgs.specs.Messages.{site_pair}
 use Rattle.tam_msgs.specs.Runs.{End, Quiet, Double_write, Out_of_range, Frames_full, Cells_full, Budget_spent, Wild, Trap, Report, missing_of, is_without}
-use Rattle.tam_eval.specs.GraphRuns.{graph_told}
-use Rattle.tam_eval.specs.Headline.{IsRight, LinesDiffer, HasCause}
-use Rattle.tam_run.specs.RightRuns.{RunsAreRight, HasRoom, RoomIsQuiet, SameLines, QuietRunsAgree, NoResultIsMissing}
-use Rattle.tam_run.proofs.JournalResults.{contains-in, in-contains}
-use Rattle.tam_run.proofs.RightJournals.{borne-right}
+use Rattle.tam_run.specs.declared.level.Level.TheVariants as level
+use Rattle.tam_flow.specs.Headline.{IsRight, LinesDiffer, HasCause}
+use Rattle.tam_run.specs.RightRuns.{RunsAreBorneOut, RunsAreRight, HasRoom, RoomIsQuiet, SameLines, QuietRunsAgree, NoResultIsMissing}
+use Rattle.tam_flow.proofs.JournalResults.{contains-in, in-contains}
+use Rattle.tam_flow.proofs.RightJournals.{borne-right}
 use Rattle.tam_run.proofs.GraphJournals.{run-borne}
 use Rattle.tam_split.specs.GraphPartitions.{singles}
 
@@ -179,23 +179,23 @@ module _ (g : Graph) (args : List ℕ) where
 
 -- ---- the law
 
--- each run is right
+-- each run is borne out
+pub runs_are-borne : RunsAreBorneOut
+runs_are-borne level.Graph g args order limits accepted arguments ranges = (singles g, run-borne g args order limits accepted arguments ranges)
+
+-- what is borne out is right
 pub runs_are-right : RunsAreRight
-runs_are-right g args order limits accepted arguments ranges =
-    borne-right g (singles g) args limits (graph_told g args order limits) (run-borne g args order limits accepted arguments ranges)
+runs_are-right g all args limits r borne = borne-right g all args limits r borne
 
 -- with room it is quiet
 pub room_is-quiet : RoomIsQuiet
-room_is-quiet g args order limits accepted arguments ranges room =
-    room-quiet g args limits room (graph_told g args order limits).how (runs_are-right g args order limits accepted arguments ranges).cause
+room_is-quiet g all args limits r borne room = room-quiet g args limits room r.how (borne-right g all args limits r borne).cause
 
 -- quiet runs agree
 pub quiet_runs-agree : QuietRunsAgree
-quiet_runs-agree g args order another limits more accepted arguments ranges within p q =
-    same-lines g args (graph_told g args order limits) (graph_told g args another more) limits more
-    (runs_are-right g args order limits accepted arguments ranges) (runs_are-right g args another more accepted arguments within) p q refl
+quiet_runs-agree g all others args limits more r s a b p q =
+    same-lines g args r s limits more (borne-right g all args limits r a) (borne-right g others args more s b) p q (a.results ∙ sym b.results)
 
 -- no result is missing
 pub no_result-is_missing : NoResultIsMissing
-no_result-is_missing g args order limits k w accepted arguments ranges given =
-    none-missing g args limits (graph_told g args order limits) (runs_are-right g args order limits accepted arguments ranges) k w given
+no_result-is_missing g all args limits r k w borne given = none-missing g args limits r (borne-right g all args limits r borne) k w given

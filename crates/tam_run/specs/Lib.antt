@@ -1,4 +1,5 @@
 pub mod LineLists
 pub mod Ends
+pub mod Levels
 pub mod Writing
 pub mod RightRuns

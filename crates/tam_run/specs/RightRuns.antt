@@ -1,4 +1,5 @@
--- The law of runs: each run of an accepted graph is right; where the limits leave room it is quiet; and quiet runs agree, whatever the order and the limits.
+-- The law of runs, of every level: each run of an accepted graph is borne out by a journal; so it is right, where the limits leave room it is quiet, and
+-- quiet runs agree, whatever the levels, the orders and the limits.
 use Rattle.std.specs.Prelude.{ℕ, ◌+◌, ◌*◌, ◌≤◌, ◌≡◌, List, length, Contains, IsPermutation}
 use Rattle.tam_msgs.specs.declared.item.Item.{Item}
 use Rattle.tam_msgs.specs.declared.limits.Limits.{Limits}
@@ -7,13 +8,20 @@ use Rattle.tam_msgs.specs.Runs.{Quiet, Report, missing_of}
 use Rattle.tam_graph.specs.Graphs.{Graph, AreArguments}
 use Rattle.tam_graph.specs.Accepted.{IsAccepted}
 use Rattle.tam_fire.specs.FiringRules.{Path, Known, Result, DoubleWrite, OutsideAccess, Instance, Instances, Activations, Asked, Allocs, cells_of}
-use Rattle.tam_eval.specs.GraphRuns.{graph_told}
-use Rattle.tam_eval.specs.Headline.{IsRight}
+use Rattle.tam_split.specs.GraphPartitions.{Partitions}
+use Rattle.tam_flow.specs.BorneOut.{IsBorneOut}
+use Rattle.tam_flow.specs.Headline.{IsRight}
+use Rattle.tam_run.specs.declared.level.Level.{Level}
+use Rattle.tam_run.specs.Levels.{told_at}
 
--- each run of an accepted graph is right
+-- each run of an accepted graph, at every level, is borne out by a journal over some valid partitions
+abbrev pub RunsAreBorneOut : Type 0
+RunsAreBorneOut = (level : Level) (g : Graph) (args : List ℕ) (order : List Item) (limits : Limits) → IsAccepted g → AreArguments g args → AreLimits limits
+    → (all : Partitions) × IsBorneOut g all args limits (told_at level g args order limits)
+
+-- each run that is borne out is right
 abbrev pub RunsAreRight : Type 0
-RunsAreRight = (g : Graph) (args : List ℕ) (order : List Item) (limits : Limits) → IsAccepted g → AreArguments g args → AreLimits limits
-    → IsRight g args limits (graph_told g args order limits)
+RunsAreRight = (g : Graph) (all : Partitions) (args : List ℕ) (limits : Limits) (r : Report) → IsBorneOut g all args limits r → IsRight g args limits r
 
 -- the limits leave room for what the rules give, which has no double write and no access outside
 pub record HasRoom (g : Graph) (args : List ℕ) (limits : Limits) : Type 0 where
@@ -23,24 +31,22 @@ pub record HasRoom (g : Graph) (args : List ℕ) (limits : Limits) : Type 0 wher
   pub no_double : (s t : ℕ × ℕ) → ¬ DoubleWrite g args s t
   pub no_outside : (s : ℕ × ℕ) (i l : ℕ) → ¬ OutsideAccess g args s i l
 
--- a run with such limits is quiet
+-- a run that is borne out within such limits is quiet
 abbrev pub RoomIsQuiet : Type 0
-RoomIsQuiet = (g : Graph) (args : List ℕ) (order : List Item) (limits : Limits) → IsAccepted g → AreArguments g args → AreLimits limits
-    → HasRoom g args limits → (graph_told g args order limits).how ≡ Quiet
+RoomIsQuiet = (g : Graph) (all : Partitions) (args : List ℕ) (limits : Limits) (r : Report) → IsBorneOut g all args limits r → HasRoom g args limits
+    → r.how ≡ Quiet
 
 -- two reports have the same lines but for their order, and the same missing lines
 pub record SameLines (r s : Report) : Type 0 where
   pub lines : IsPermutation r.printed s.printed
   pub missing : missing_of r.how r.results r.printed ≡ missing_of s.how s.results s.printed
 
--- two quiet runs of one graph on the same arguments do, under any orders and limits
+-- two quiet runs of one graph on the same arguments do, at any levels, under any orders and limits
 abbrev pub QuietRunsAgree : Type 0
-QuietRunsAgree = (g : Graph) (args : List ℕ) (order another : List Item) (limits more : Limits) → IsAccepted g → AreArguments g args
-    → AreLimits limits → AreLimits more → (graph_told g args order limits).how ≡ Quiet → (graph_told g args another more).how ≡ Quiet
-    → SameLines (graph_told g args order limits) (graph_told g args another more)
+QuietRunsAgree = (g : Graph) (all others : Partitions) (args : List ℕ) (limits more : Limits) (r s : Report) → IsBorneOut g all args limits r
+    → IsBorneOut g others args more s → r.how ≡ Quiet → s.how ≡ Quiet → SameLines r s
 
 -- no result that the rules give is missing
 abbrev pub NoResultIsMissing : Type 0
-NoResultIsMissing = (g : Graph) (args : List ℕ) (order : List Item) (limits : Limits) (k w : ℕ) → IsAccepted g → AreArguments g args
-    → AreLimits limits → Result g args k w
-    → ¬ Contains (missing_of (graph_told g args order limits).how (graph_told g args order limits).results (graph_told g args order limits).printed) k
+NoResultIsMissing = (g : Graph) (all : Partitions) (args : List ℕ) (limits : Limits) (r : Report) (k w : ℕ) → IsBorneOut g all args limits r
+    → Result g args k w → ¬ Contains (missing_of r.how r.results r.printed) k

@@ -8,6 +8,7 @@ mod broken;
 mod finishing;
 mod last_lines;
 mod laws;
+mod level;
 mod lines;
 mod outcome;
 mod whole_run;
@@ -15,5 +16,6 @@ mod writing;
 
 use broken::Broken;
 pub use laws::law_runs;
+pub use level::Level;
 pub use outcome::Outcome;
 pub use whole_run::run;

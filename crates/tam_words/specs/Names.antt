@@ -32,7 +32,20 @@ mode_of word = find (λ mode. bytes_eq word (mode_name mode)) modes
 -- the mode makes a run
 abbrev pub runs : Mode → Bool
 runs Graph = true
-runs _ = false
+runs Check = false
+runs EmitDg = false
+runs Sets = false
+runs Parts = false
+runs Assemble = false
+
+-- the mode reads the file of its name
+abbrev pub reads_file : Mode → Bool
+reads_file Graph = true
+reads_file Check = true
+reads_file EmitDg = true
+reads_file Sets = true
+reads_file Parts = true
+reads_file Assemble = true
 
 -- ---- options
 

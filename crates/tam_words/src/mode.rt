@@ -1,7 +1,7 @@
 // The modes of the program.
 ghost use Rattle.std.specs.Prelude.{◌≡◌, find};
 ghost use Rattle.std.specs.Str.{bytes_eq};
-ghost use Rattle.tam_words.specs.Names.{mode_name, mode_of, runs};
+ghost use Rattle.tam_words.specs.Names.{mode_name, mode_of, reads_file, runs};
 
 /// What the program is to do.
 ///
@@ -47,7 +47,17 @@ impl Mode {
     {
         match self {
             Mode::Graph => true,
-            _ => false,
+            Mode::Check | Mode::EmitDg | Mode::Sets | Mode::Parts | Mode::Assemble => false,
+        }
+    }
+
+    /// Whether the mode reads the file of its name.
+    pub fn reads_file(self) -> bool
+        ensures value { result ≡ reads_file self }
+    {
+        match self {
+            Mode::Graph => true,
+            Mode::Check | Mode::EmitDg | Mode::Sets | Mode::Parts | Mode::Assemble => true,
         }
     }
 }

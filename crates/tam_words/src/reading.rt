@@ -3,7 +3,6 @@ ghost use Rattle.std.specs.Prelude.{◌≡◌, map, string_bytes, IfOk, IfErr, O
 ghost use Rattle.std.specs.Option.{option_map};
 ghost use Rattle.tam_msgs.specs.Messages.{AreLimits};
 ghost use Rattle.tam_words.specs.declared.setting.Setting.TheVariants.{OrderFile as Set_order_file};
-ghost use Rattle.tam_words.specs.declared.words_error.WordsError.TheVariants.{NoMemory};
 ghost use Rattle.tam_words.specs.Options.{given};
 ghost use Rattle.tam_words.specs.Jobs.{asked, job_of, limits_of, is_plain, is_extra, Job as Asks};
 ghost use Rattle.tam_words.specs.Tells.{Tells, TellsOf};
@@ -15,7 +14,7 @@ use crate::setting::Setting;
 use crate::usage_cause::UsageCause;
 use crate::values::{read_args, read_limit, read_order};
 use crate::words_error::WordsError;
-use std::alloc::Global;
+use std::alloc::{AllocError, Global};
 use tam_msgs::Limits;
 
 /// The job that the words behind the program's name ask for, or the first cause of those that forbid one. Want of memory may hide a cause.
@@ -69,7 +68,7 @@ fn read_job(alloc: Global, mode: Mode, name: &str, options: &[String]) -> Result
     let order = read_order(alloc, text_of(Setting::Order, options).as_bytes())?;
     let limits = read_limits(options)?;
     let order_file = order_file(alloc, options)?;
-    let name = owned(alloc, name)?;
+    let name = String::from_str(alloc, name)?;
     Ok(Job::new(mode, name, args, order, order_file, limits))
 }
 
@@ -105,23 +104,12 @@ fn text_of(setting: Setting, options: &[String]) -> &str
     }
 }
 
-fn owned(alloc: Global, text: &str) -> Result<String, WordsError>
-    ensures same { IfOk result (λ copy. string_bytes copy ≡ text.now) }
-    ensures memory { IfErr result (λ e. e ≡ NoMemory) }
-{
-    match String::from_str(alloc, text) {
-        Ok(copy) => Ok(copy),
-        Err(_) => Err(WordsError::NoMemory),
-    }
-}
-
 // The name of the order file.
-fn order_file(alloc: Global, options: &[String]) -> Result<Option<String>, WordsError>
+fn order_file(alloc: Global, options: &[String]) -> Result<Option<String>, AllocError>
     ensures same { IfOk result (λ file. option_map string_bytes file ≡ given Set_order_file (map string_bytes options.now)) }
-    ensures memory { IfErr result (λ e. e ≡ NoMemory) }
 {
     match given(Setting::OrderFile, options) {
-        Some(file) => Ok(Some(owned(alloc, file)?)),
+        Some(file) => Ok(Some(String::from_str(alloc, file)?)),
         None => Ok(None),
     }
 }

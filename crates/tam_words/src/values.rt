@@ -11,7 +11,7 @@ use crate::setting::Setting;
 use crate::usage_cause::UsageCause;
 use crate::words_error::WordsError;
 use std::alloc::{AllocError, Global};
-use tam_msgs::{Order, OrderError};
+use tam_msgs::Order;
 use tam_word::{read_number, read_word};
 
 // The most bytes of an order list.
@@ -22,10 +22,9 @@ pub fn read_args(alloc: Global, text: &[u8]) -> Result<Vec<u32>, WordsError>
     ensures found { IfOk result (λ args. args_of text.now ≡ Some args.items) }
     ensures refused { IfErr result (TellsOf (some_or Args (args_of text.now))) }
 {
-    match words_of(alloc, text) {
-        Ok(Some(args)) => Ok(args),
-        Ok(None) => Err(WordsError::Usage(UsageCause::Args)),
-        Err(_) => Err(WordsError::NoMemory),
+    match words_of(alloc, text)? {
+        Some(args) => Ok(args),
+        None => Err(WordsError::Usage(UsageCause::Args)),
     }
 }
 
@@ -37,11 +36,7 @@ pub fn read_order(alloc: Global, text: &[u8]) -> Result<Order, WordsError>
     if text.len() > MOST_ORDER_BYTES {
         return Err(WordsError::Usage(UsageCause::Order));
     }
-    match Order::read(alloc, text) {
-        Ok(order) => Ok(order),
-        Err(OrderError::Bad { .. }) => Err(WordsError::Usage(UsageCause::Order)),
-        Err(OrderError::NoMemory) => Err(WordsError::NoMemory),
-    }
+    Ok(Order::read(alloc, text)?)
 }
 
 /// The number that a setting is given, if it is one from the least to the most; the usual one where nothing is given.

@@ -6,15 +6,16 @@ use Rattle.tam_words.specs.declared.usage_cause.UsageCause.TheVariants.{ArgsCoun
 use Rattle.tam_msgs.specs.Runs.{missing_of}
 use Rattle.tam_input.specs.Inputs.{request_of}
 use Rattle.tam_input.specs.Refusing.{usage_line}
+use Rattle.tam_input.specs.declared.ending.Ending.TheVariants as ending
 use Rattle.tam.specs.Answers.{AnswerTo, Spells, wrong_count, run_of}
 use Rattle.tam.proofs.Saying.{said-done}
-use Rattle.tam.proofs.Running.{one-each, same-run, whole-done, broken-done, stopped-done, quiet-status}
+use Rattle.tam.proofs.Running.{one-each, same-run, whole-done, broken-done, stopped-done, quiet-ending}
 use Rattle.tam.proofs.graph_run.run_graph.Goals as goal
 
 pub returns-then-args-params : goal.returns-then-args-params
 returns-then-args-params g c = record {
   done = λ bytes spelled.
-      said-done _ _ _ _ (AnswerTo (request_of c.args.job.now c.args.order) bytes) 2 c.say.result.code (usage_line ArgsCount)
+      said-done _ _ _ _ (AnswerTo (request_of c.args.job.now c.args.order) bytes) ending.Usage c.say.result (usage_line ArgsCount)
       (wrong_count c.requires.mode spelled (λ e. c.if-args-params.true (ap length c.args-args.ensures.value ∙ e
       ∙ sym (c.params.ensures.value ∙ ap (λ n. params_of (code_of c.args.graph.now n)) c.main.ensures.value))))
       c.say.ensures.said;
@@ -32,9 +33,9 @@ returns-in-Quiet g c = record {
         spelled = spelled;
         one_each = one-each c.args.graph.now c.args.job.now.args c.args-args.result.now c.main.result c.params.result c.args-args.ensures.value
             c.main.ensures.value c.params.ensures.value c.if-args-params.false;
-      }) _ _ _ _ c.quiet_status.result.code
-      (quiet-status r.how (missing_of r.how r.results r.printed) c.in-Quiet.missing c.quiet_status.result.code w.1 w.2 c.quiet_status.ensures.none
-      c.quiet_status.ensures.some) w.0 c.in-Quiet.ensures.counted;
+      }) _ _ _ _ c.quiet_ending.result
+      (quiet-ending r.how (missing_of r.how r.results r.printed) c.in-Quiet.missing c.quiet_ending.result w.1 w.2 c.quiet_ending.ensures.none
+      c.quiet_ending.ensures.some) w.0 c.in-Quiet.ensures.counted;
 }
 
 pub returns-in-Stopped : goal.returns-in-Stopped
@@ -47,7 +48,7 @@ returns-in-Stopped g c = record {
         spelled = spelled;
         one_each = one-each c.args.graph.now c.args.job.now.args c.args-args.result.now c.main.result c.params.result c.args-args.ensures.value
             c.main.ensures.value c.params.ensures.value c.if-args-params.false;
-      }) _ _ _ _ c.in-Stopped.stop (g.K.Sink.taken c.run.new.out) (g.K.Sink.faults c.run.new.out) c.answer_stop.result.code
+      }) _ _ _ _ c.in-Stopped.stop (g.K.Sink.taken c.run.new.out) (g.K.Sink.faults c.run.new.out) c.answer_stop.result
       (subst (λ r. Writes r (g.K.Sink.taken c.args.out.now) (g.K.Sink.taken c.run.new.out) (outcome.Stopped c.in-Stopped.stop)) same c.in-Stopped.ensures.text)
       c.in-Stopped.ensures.counted c.answer_stop.ensures.stopped;
 }

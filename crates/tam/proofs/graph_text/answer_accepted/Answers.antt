@@ -1,9 +1,10 @@
 use Rattle.std.proofs.Common.{◌≡◌, ◌∙◌, sym, ap, refl}
 use Rattle.std.specs.Prelude.{Some}
 use Rattle.tam_graph.specs.Texts.{canonical}
-use Rattle.tam_input.proofs.Refused.{if-ok}
+use Rattle.tam_input.proofs.Found.{if-ok}
 use Rattle.tam_list.specs.Listings.{check_text, sets_text, parts_text}
 use Rattle.tam_input.specs.Inputs.{request_of}
+use Rattle.tam_input.specs.declared.ending.Ending.TheVariants as ending
 use Rattle.tam.specs.Answers.{AnswerTo, listed, wanted, listing}
 use Rattle.tam.proofs.Saying.{made-done}
 use Rattle.tam.proofs.graph_text.answer_accepted.Goals as goal
@@ -11,14 +12,14 @@ use Rattle.tam.proofs.graph_text.answer_accepted.Goals as goal
 pub returns-in-Check : goal.returns-in-Check
 returns-in-Check g c = record {
   done = λ bytes spelled.
-      made-done _ _ _ _ (AnswerTo (request_of c.args.job.now c.args.order) bytes) 0 c.say_made.result.code c.print_check.result (check_text c.args.graph.now)
+      made-done _ _ _ _ (AnswerTo (request_of c.args.job.now c.args.order) bytes) ending.Done c.say_made.result c.print_check.result (check_text c.args.graph.now)
       (listed spelled (ap (λ m. listing m c.args.graph.now) (sym c.in-Check.ensures.value))) wanted c.print_check.ensures.value c.say_made.ensures.said;
 }
 
 pub returns-in-EmitDg : goal.returns-in-EmitDg
 returns-in-EmitDg g c = record {
   done = λ bytes spelled.
-      made-done _ _ _ _ (AnswerTo (request_of c.args.job.now c.args.order) bytes) 0 c.say_made-in-EmitDg.result.code c.print.result (canonical c.args.graph.now)
+      made-done _ _ _ _ (AnswerTo (request_of c.args.job.now c.args.order) bytes) ending.Done c.say_made-in-EmitDg.result c.print.result (canonical c.args.graph.now)
       (listed spelled (ap (λ m. listing m c.args.graph.now) (sym c.in-EmitDg.ensures.value))) wanted (if-ok c.print.result (λ t e. e ∙ ap canonical c.graph.ensures.value) c.print.ensures.value)
       c.say_made-in-EmitDg.ensures.said;
 }
@@ -26,13 +27,13 @@ returns-in-EmitDg g c = record {
 pub returns-in-Sets : goal.returns-in-Sets
 returns-in-Sets g c = record {
   done = λ bytes spelled.
-      made-done _ _ _ _ (AnswerTo (request_of c.args.job.now c.args.order) bytes) 0 c.say_made-in-Sets.result.code c.print_sets.result (sets_text c.args.graph.now)
+      made-done _ _ _ _ (AnswerTo (request_of c.args.job.now c.args.order) bytes) ending.Done c.say_made-in-Sets.result c.print_sets.result (sets_text c.args.graph.now)
       (listed spelled (ap (λ m. listing m c.args.graph.now) (sym c.in-Sets.ensures.value))) wanted c.print_sets.ensures.value c.say_made-in-Sets.ensures.said;
 }
 
 pub returns-in-Parts : goal.returns-in-Parts
 returns-in-Parts g c = record {
   done = λ bytes spelled.
-      made-done _ _ _ _ (AnswerTo (request_of c.args.job.now c.args.order) bytes) 0 c.say_made-in-Parts.result.code c.print_parts.result (parts_text c.args.graph.now)
+      made-done _ _ _ _ (AnswerTo (request_of c.args.job.now c.args.order) bytes) ending.Done c.say_made-in-Parts.result c.print_parts.result (parts_text c.args.graph.now)
       (listed spelled (ap (λ m. listing m c.args.graph.now) (sym c.in-Parts.ensures.value))) wanted c.print_parts.ensures.value c.say_made-in-Parts.ensures.said;
 }

@@ -1,8 +1,9 @@
 use Rattle.std.proofs.Common.{◌≡◌, ◌∙◌, ap, ap₂}
 use Rattle.tam_read.specs.Placed.{line_at, lines_in}
-use Rattle.tam_input.proofs.Refused.{if-ok}
+use Rattle.tam_input.proofs.Found.{if-ok}
 use Rattle.tam_input.specs.Inputs.{request_of}
 use Rattle.tam.specs.AnswerLines.{refused_line, check_cause_name}
+use Rattle.tam_input.specs.declared.ending.Ending.TheVariants as ending
 use Rattle.tam.specs.Answers.{AnswerTo, not_accepted, wanted}
 use Rattle.tam.proofs.Saying.{said-done, made-done}
 use Rattle.tam.proofs.graph_text.answer_found.Goals as goal
@@ -11,7 +12,7 @@ pub returns-in-Err-default-At : goal.returns-in-Err-default-At
 returns-in-Err-default-At g c = record {
   done = λ bytes reads lines.
       let told = c.in-Err-default-At in
-      made-done _ _ _ _ (AnswerTo (request_of c.args.job.now c.args.order) bytes) 1 c.say_made.result.code c.refused_line.result
+      made-done _ _ _ _ (AnswerTo (request_of c.args.job.now c.args.order) bytes) ending.Refused c.say_made.result c.refused_line.result
       (refused_line (line_at (lines_in bytes) told.place) (check_cause_name told.cause))
       (not_accepted c.requires.graph reads (rw told.field-0-1-is at told.ensures.refused)) wanted
       (if-ok c.refused_line.result (λ t e. e ∙ ap₂ refused_line
@@ -23,5 +24,5 @@ returns-in-Err-default-At g c = record {
 pub returns : goal.returns
 returns g c = record {
   done = λ bytes reads lines.
-      said-done _ _ _ _ (AnswerTo (request_of c.args.job.now c.args.order) bytes) 11 c.say_no_memory.result.code _ wanted c.say_no_memory.ensures.said;
+      said-done _ _ _ _ (AnswerTo (request_of c.args.job.now c.args.order) bytes) ending.NoMemory c.say_no_memory.result _ wanted c.say_no_memory.ensures.said;
 }

@@ -1,14 +1,15 @@
 use Rattle.std.proofs.Common.{◌∙◌, ap, ap₂}
-use Rattle.tam_input.proofs.Refused.{if-ok}
+use Rattle.tam_input.proofs.Found.{if-ok}
 use Rattle.tam_input.specs.Inputs.{request_of}
 use Rattle.tam.specs.AnswerLines.{refused_line, read_cause_name}
+use Rattle.tam_input.specs.declared.ending.Ending.TheVariants as ending
 use Rattle.tam.specs.Answers.{AnswerTo, not_graph, wanted}
 use Rattle.tam.proofs.Saying.{said-done, made-done}
 use Rattle.tam.proofs.graph_text.answer_graph_text.Goals as goal
 
 pub returns-in-Err-At : goal.returns-in-Err-At
 returns-in-Err-At g c = record {
-  done = made-done _ _ _ _ (AnswerTo (request_of c.args.job.now c.args.order) c.args.text.now) 1 c.say_made.result.code c.refused_line.result
+  done = made-done _ _ _ _ (AnswerTo (request_of c.args.job.now c.args.order) c.args.text.now) ending.Refused c.say_made.result c.refused_line.result
       (refused_line c.in-Err-At.line (read_cause_name c.in-Err-At.cause)) (not_graph c.requires.graph (rw c.in-Err-At.field-0-is at c.in-Err-At.ensures.refused)) wanted
       (if-ok c.refused_line.result (λ t e. e ∙ ap₂ refused_line c.in-Err-At.line-is
       (c.read_cause_name.ensures.value ∙ ap read_cause_name c.in-Err-At.cause-is)) c.refused_line.ensures.value) c.say_made.ensures.said;
@@ -16,5 +17,5 @@ returns-in-Err-At g c = record {
 
 pub returns : goal.returns
 returns g c = record {
-  done = said-done _ _ _ _ (AnswerTo (request_of c.args.job.now c.args.order) c.args.text.now) 11 c.say_no_memory.result.code _ wanted c.say_no_memory.ensures.said;
+  done = said-done _ _ _ _ (AnswerTo (request_of c.args.job.now c.args.order) c.args.text.now) ending.NoMemory c.say_no_memory.result _ wanted c.say_no_memory.ensures.said;
 }

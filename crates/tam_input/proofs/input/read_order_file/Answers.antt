@@ -1,20 +1,22 @@
 use Rattle.std.proofs.Common.{rules, ◌≡◌, ap, subst, ◌∙◌}
 use Rattle.std.specs.Prelude.{Err}
 use Rattle.tam_msgs.specs.Orders.{order_of}
-use Rattle.tam_input.specs.Inputs.{wanted}
-use Rattle.tam_input.proofs.Refused.{file-refused, list-refused}
+use Rattle.tam_input.specs.Told.{told}
+use Rattle.tam_input.proofs.Found.{order-unread, list-refused}
 use Rattle.tam_input.proofs.input.read_order_file.Goals as goal
 
 pub returns-in_err-text-clause-refused : goal.returns-in_err-text-clause-refused
 returns-in_err-text-clause-refused g c =
-    let h = file-refused (g.F.Files.left c.args.files.now c.args.file.now) c.in_err-text.field-0.0 c.in_err-text.ensures.refused in
+    let h = order-unread (told g.F.Files.left g.F.Files.faults g.F.Files.ends c.args.files.now)
+    (told g.F.Files.left g.F.Files.faults g.F.Files.ends c.read_file.new.files) c.args.file.now c.in_err-text.field-0.0
+    c.in_err-text.ensures.refused c.in_err-text.ensures.ended in
     search (rules, h)
 
-pub returns-in-Err-Bad-clause-refused : goal.returns-in-Err-Bad-clause-refused
-returns-in-Err-Bad-clause-refused g c =
-    list-refused (g.F.Files.left c.args.files.now c.args.file.now) c.in_ok-text.text.items c.in-Err-Bad.field-0-0 c.in_ok-text.ensures.content
-    c.in_ok-text.ensures.few (subst (λ b. order_of b ≡ Err c.in-Err-Bad.field-0-0) c.deref.ensures.value
-    (c.read.ensures.bad c.in-Err-Bad.field-0-0 (c.in-Err-Bad.is ∙ ap Err c.in-Err-Bad.field-0-is)))
-
-pub returns-clause-refused : goal.returns-clause-refused
-returns-clause-refused g c = wanted
+pub returns-in_err-read-clause-refused : goal.returns-in_err-read-clause-refused
+returns-in_err-read-clause-refused g c =
+    let h = list-refused (told g.F.Files.left g.F.Files.faults g.F.Files.ends c.args.files.now)
+    (told g.F.Files.left g.F.Files.faults g.F.Files.ends c.read_file.new.files) c.args.file.now c.in_ok-text.text.items c.in_err-read.field-0.0
+    c.in_ok-text.ensures.content c.in_ok-text.ensures.few
+    (λ place is. subst (λ b. order_of b ≡ Err place) c.deref.ensures.value (c.read.ensures.bad place (c.in_err-read.was ∙ ap Err is)))
+    c.in_ok-text.ensures.ended in
+    search (rules, h)

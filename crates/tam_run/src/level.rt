@@ -1,0 +1,7 @@
+// The levels at which a graph is run.
+
+/// The level at which a graph is run: vertex by vertex of the graph itself.
+#[derive(Clone, Copy, Debug, PartialEq, Eq)]
+pub enum Level {
+    Graph,
+}

@@ -8,8 +8,9 @@ use Rattle.tam_word.proofs.Each.{get-left, get-last, length-changed_at}
 use Rattle.tam_word.proofs.Tests.{number-eq, number-differs}
 use Rattle.tam_word.proofs.ChangedAt.{changed_at-same, changed_at-other, changed_at-past}
 use Rattle.tam_graph.specs.Graphs.{Graph, code_of}
-use Rattle.tam_flow.specs.Worlds.{World, ActivationState, begun, or_activation, activation_at, its_code, word_at, has_word, has_entered, with_word, with_block}
-use Rattle.tam_flow.specs.Worlds.{got, entered}
+use Rattle.tam_world.specs.Worlds.{World, ActivationState, begun, or_activation, activation_at, its_code, word_at, has_word, has_entered, with_word, with_block}
+use Rattle.tam_world.specs.Worlds.{got, entered}
+use Rattle.tam_world.specs.Effects.{with_begun}
 use Rattle.tam_eval.proofs.Activations.{its_word, is_in, word-with_word, word-with_word_other, has-with_word, block-with_block, block-with_block_other}
 use Rattle.tam_eval.proofs.Activations.{block-begun}
 
@@ -20,10 +21,6 @@ IsLive w i = i < length w.activations
 -- a world with an activation changed
 abbrev pub with_changed : World → ℕ → (ActivationState → ActivationState) → World
 with_changed w i f = record w { activations = changed_at i f w.activations }
-
--- a world with one more activation
-abbrev pub with_begun : World → ℕ → ℕ → ℕ → World
-with_begun w k f x = record w { activations = w.activations ++ begun k f x ∷ [] }
 
 -- a node that has no word has none
 pub no_word : (w : World) (i y : ℕ) → has_word w i y ≡ false → word_at w i y ≡ None

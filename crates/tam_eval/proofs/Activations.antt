@@ -7,8 +7,8 @@ use Rattle.tam_word.proofs.Tests.{number-eq, number-differs, differs-number}
 use Rattle.tam_word.proofs.PutAt.{put_at-here, put_at-cases}
 use Rattle.tam_word.proofs.AllOf.{all_of-alike, all_of-but, all_of-fails, all_of-more}
 use Rattle.tam_graph.specs.Graphs.{Code, kind_at, block_at, operands_of, fires}
-use Rattle.tam_flow.specs.Worlds.{ActivationState, begun, with_word, with_block}
-use Rattle.tam_eval.specs.Takers.{is_none}
+use Rattle.tam_world.specs.Worlds.{ActivationState, begun, with_word, with_block}
+use Rattle.tam_world.specs.Takers.{is_none}
 
 -- the word that node x of an activation has got
 abbrev pub its_word : ActivationState → ℕ → Option ℕ

@@ -7,9 +7,9 @@ use Rattle.tam_word.proofs.Sifted.{first_of-one}
 use Rattle.tam_word.proofs.Members.{in-has}
 use Rattle.tam_graph.specs.declared.kind.Kind.{Kind}
 use Rattle.tam_graph.specs.Graphs.{Graph, Code, kind_at, nodes_in, node_numbers, node_where, node_in, owner_of, one_or_none, is_merge}
-use Rattle.tam_flow.specs.Worlds.{World, its_code, word_at, has_word, got, all_got, merges_of}
+use Rattle.tam_world.specs.Worlds.{World, its_code, word_at, has_word, got, all_got, merges_of}
 use Rattle.tam_eval.specs.GraphRuns.{is_enabled, joins}
-use Rattle.tam_eval.specs.Takers.{takers_of, takers_now}
+use Rattle.tam_world.specs.Takers.{takers_of, takers_now}
 use Rattle.tam_eval.proofs.Accessors.{IsLive}
 use Rattle.tam_eval.proofs.Joins.{joins-got, joins-got_any, joins-got_again, joins-unchanged}
 

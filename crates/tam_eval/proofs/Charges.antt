@@ -11,7 +11,7 @@ use Rattle.tam_split.proofs.Firers.{Firer, is_inner}
 use Rattle.tam_msgs.specs.declared.message.Message.{Message}
 use Rattle.tam_msgs.specs.declared.message.Message.TheVariants.{Word as Carry, Frame as Begin, Cells as Make, Fetch as Ask_cell, Store as Put_cell}
 use Rattle.tam_msgs.specs.Messages.{outside}
-use Rattle.tam_flow.specs.Worlds.{World, activation_at, its_code, has_word, words_of, result_message, firing_of, fired_with, fired}
+use Rattle.tam_world.specs.Worlds.{World, activation_at, its_code, has_word, words_of, result_message, firing_of, fired_with, fired}
 use Rattle.tam_flow.specs.Journals.{State, has_run, on_their_way}
 use Rattle.tam_flow.specs.Reached.{IsThere}
 use Rattle.tam_flow.proofs.Moves.{Moves, IsForInlet}

@@ -7,7 +7,7 @@ use Rattle.tam_msgs.specs.declared.message.Message.{Message}
 use Rattle.tam_msgs.specs.declared.message.Message.TheVariants.{Word as Carry, Frame as Begin, Cells as Make, Fetch as Ask_cell, Store as Put_cell}
 use Rattle.tam_msgs.specs.Messages.{outside, answers}
 use Rattle.tam_istr.specs.Cells.{Arrays, Cell, Reader, Empty, Filled, with_array, with_cell, fetch_of, store_of, in_array, fetched_from, stored_into}
-use Rattle.tam_flow.specs.Worlds.{World, Delivery, Went, Printed, Faulted, accessed, delivered, got, begun}
+use Rattle.tam_world.specs.Worlds.{World, Delivery, Went, Printed, Faulted, accessed, delivered, got, begun}
 use Rattle.tam_flow.specs.Reached.{cell_at}
 use Rattle.tam_flow.proofs.Moves.{Moves, JustNone, Left, left-delivered, IsForInlet, Fits, for-later, moves-begun}
 use Rattle.tam_flow.proofs.Changes.{set-cases}

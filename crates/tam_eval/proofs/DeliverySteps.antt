@@ -11,7 +11,7 @@ use Rattle.tam_msgs.specs.declared.message.Message.{Message}
 use Rattle.tam_msgs.specs.declared.message.Message.TheVariants.{Word as Carry, Frame as Begin, Cells as Make, Fetch as Ask_cell, Store as Put_cell}
 use Rattle.tam_msgs.specs.Messages.{outside}
 use Rattle.tam_msgs.specs.declared.item.Item.{Item}
-use Rattle.tam_flow.specs.Worlds.{World, Effect, Delivery, Went, Printed, Faulted, Fault, activation_at, has_word, delivered, changes, got}
+use Rattle.tam_world.specs.Worlds.{World, Effect, Delivery, Went, Printed, Faulted, Fault, activation_at, has_word, delivered, changes, got}
 use Rattle.tam_flow.specs.Journals.{State, Event, Deliver, has_run, on_their_way, is_legal_from, may_follow, may_arrive, after_delivery}
 use Rattle.tam_flow.specs.Journals.{deliver_all, or_message}
 use Rattle.tam_word.proofs.Tests.{below-test}

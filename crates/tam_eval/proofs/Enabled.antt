@@ -3,12 +3,13 @@ use Rattle.std.proofs.Common.{None, ◌≡◌, ◌≢◌, ◌≤◌, ℕ, Bool, 
 use Rattle.tam_word.specs.Lists.{all_of, has}
 use Rattle.tam_word.proofs.Tests.{number-eq, number-differs}
 use Rattle.tam_graph.specs.Graphs.{Graph, code_of, kind_at, block_at, operands_of, fires}
-use Rattle.tam_flow.specs.Worlds.{World, or_activation, activation_at, its_code, has_word, has_entered, with_word, with_block, got, all_got, entered}
+use Rattle.tam_world.specs.Worlds.{World, or_activation, activation_at, its_code, has_word, has_entered, with_word, with_block, got, all_got, entered}
 use Rattle.tam_eval.specs.GraphRuns.{is_enabled}
-use Rattle.tam_eval.specs.Takers.{is_none}
+use Rattle.tam_world.specs.Takers.{is_none}
 use Rattle.tam_eval.proofs.Activations.{may_fire, gate, is_fed, gate-all, gate-open, open-gate, may_fire-with_block, may_fire-begun, keeps-word, keeps-block}
 use Rattle.tam_eval.proofs.Activations.{stays-word}
-use Rattle.tam_eval.proofs.Accessors.{IsLive, with_begun, changed-activation, other-activation, changed-cases, activation-begun, activation-begun_other}
+use Rattle.tam_world.specs.Effects.{with_begun}
+use Rattle.tam_eval.proofs.Accessors.{IsLive, changed-activation, other-activation, changed-cases, activation-begun, activation-begun_other}
 use Rattle.tam_eval.proofs.Accessors.{activation-past}
 
 -- an activation that isn't there has no vertex that may fire

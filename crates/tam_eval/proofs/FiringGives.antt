@@ -7,8 +7,8 @@ use Rattle.tam_graph.specs.declared.kind.Kind.{Kind}
 use Rattle.tam_graph.specs.declared.kind.Kind.TheVariants.{Const, Op as Operate, Seq}
 use Rattle.tam_graph.specs.Graphs.{Graph, kind_at, operands_of}
 use Rattle.tam_split.proofs.Firers.{is_inner}
-use Rattle.tam_flow.specs.Worlds.{World, ActivationState, or_activation, activation_at, its_code, words_of, has_word, with_word, got}
-use Rattle.tam_flow.specs.Worlds.{firing_of, fired_with, fired}
+use Rattle.tam_world.specs.Worlds.{World, ActivationState, or_activation, activation_at, its_code, words_of, has_word, with_word, got}
+use Rattle.tam_world.specs.Worlds.{firing_of, fired_with, fired}
 use Rattle.tam_flow.specs.Reached.{IsThere}
 use Rattle.tam_flow.proofs.ActivationLists.{has_among, has-word, has-here}
 

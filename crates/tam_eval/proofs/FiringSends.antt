@@ -14,7 +14,7 @@ use Rattle.tam_split.proofs.Firers.{kind-there}
 use Rattle.tam_msgs.specs.declared.message.Message.{Message}
 use Rattle.tam_msgs.specs.declared.message.Message.TheVariants.{Word as Carry}
 use Rattle.tam_msgs.specs.Messages.{outside}
-use Rattle.tam_flow.specs.Worlds.{World, activation_at, its_code, word_of, words_of, result_message, firing_of, fired_with, fired}
+use Rattle.tam_world.specs.Worlds.{World, activation_at, its_code, word_of, words_of, result_message, firing_of, fired_with, fired}
 use Rattle.tam_flow.specs.Journals.{State}
 use Rattle.tam_flow.specs.Reached.{IsThere, IsReached}
 use Rattle.tam_flow.proofs.ActivationLists.{word_among}

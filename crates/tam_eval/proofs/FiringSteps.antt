@@ -10,7 +10,7 @@ use Rattle.tam_split.proofs.Firers.{Firer, Giver, is_inner, value-inner, firer-a
 use Rattle.tam_msgs.specs.declared.message.Message.{Message}
 use Rattle.tam_msgs.specs.declared.item.Item.{Item}
 use Rattle.tam_istr.specs.Cells.{Empty, Reader, Arrays}
-use Rattle.tam_flow.specs.Worlds.{World, Effect, Fault, its_code, has_word, fired}
+use Rattle.tam_world.specs.Worlds.{World, Effect, Fault, its_code, has_word, fired}
 use Rattle.tam_flow.specs.Journals.{State, Event, Run, has_run, on_their_way, is_legal_from, may_follow, may_run}
 use Rattle.tam_flow.specs.Reached.{IsThere, cell_at}
 use Rattle.tam_flow.proofs.SingleRuns.{BlockThere, run-firer, may_run-firer}

@@ -8,7 +8,7 @@ use Rattle.tam_split.proofs.Firers.{Firer, is_inner}
 use Rattle.tam_msgs.specs.declared.message.Message.{Message}
 use Rattle.tam_msgs.specs.declared.item.Item.{Item}
 use Rattle.tam_istr.specs.Cells.{Empty, Reader}
-use Rattle.tam_flow.specs.Worlds.{World, its_code, has_word, has_entered}
+use Rattle.tam_world.specs.Worlds.{World, its_code, has_word, has_entered}
 use Rattle.tam_flow.specs.Journals.{State, has_run, on_their_way}
 use Rattle.tam_flow.specs.Reached.{IsThere, cell_at}
 use Rattle.tam_flow.proofs.SingleRuns.{InletAt}

@@ -14,7 +14,7 @@ use Rattle.tam_split.proofs.Firers.{Firer, is_inner, inner-no_inlet, value-inner
 use Rattle.tam_split.proofs.Partitioning.{single-class}
 use Rattle.tam_split.proofs.Singles.{parts-single}
 use Rattle.tam_fire.specs.FiringRules.{Path, Value, Instance, IsActive, Giver as Of_giver, Firer as Of_firer}
-use Rattle.tam_flow.specs.Worlds.{activation_at, its_code, has_word}
+use Rattle.tam_world.specs.Worlds.{activation_at, its_code, has_word}
 use Rattle.tam_flow.specs.Journals.{State, has_run, block_of_act, parts_of_act}
 use Rattle.tam_flow.specs.Told.{Tells, path_of, meant_at, HaveWords, outlet_place, outlet_ran}
 use Rattle.tam_flow.specs.RunJournals.{IsCharged}

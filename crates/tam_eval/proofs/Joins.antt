@@ -6,14 +6,15 @@ use Rattle.tam_word.proofs.Sifted.{filter-alike, filter-twice, filter-none, flat
 use Rattle.tam_istr.specs.Cells.{Arrays}
 use Rattle.tam_msgs.specs.Messages.{outside}
 use Rattle.tam_graph.specs.Graphs.{Graph, Code, code_of, kind_at, block_at, operands_of, fires, node_numbers}
-use Rattle.tam_flow.specs.Worlds.{World, ActivationState, begun, activation_at, its_code, word_at, has_word, has_entered, with_word, with_block, got, entered}
-use Rattle.tam_flow.specs.Worlds.{opening}
+use Rattle.tam_world.specs.Worlds.{World, ActivationState, begun, activation_at, its_code, word_at, has_word, has_entered, with_word, with_block, got, entered}
+use Rattle.tam_world.specs.Worlds.{opening}
 use Rattle.tam_eval.specs.GraphRuns.{is_enabled, joins_at, joins, nothing_begun}
-use Rattle.tam_eval.specs.Takers.{takers_of, firers_in, starters_of, is_none, takers_now, firers_now}
+use Rattle.tam_world.specs.Takers.{takers_of, firers_in, starters_of, is_none, takers_now, firers_now}
 use Rattle.tam_eval.proofs.Activations.{its_word, is_in, may_fire, newly, newly-same, newly-all, newly-word, newly-block, again-word, again-block}
 use Rattle.tam_eval.proofs.Activations.{may_fire-begun}
 use Rattle.tam_eval.proofs.Enabled.{enabled-past}
-use Rattle.tam_eval.proofs.Accessors.{no_word, changed-cases, IsLive, with_begun, length-with_changed, changed-activation, other-activation, nothing-changed}
+use Rattle.tam_world.specs.Effects.{with_begun}
+use Rattle.tam_eval.proofs.Accessors.{no_word, changed-cases, IsLive, length-with_changed, changed-activation, other-activation, nothing-changed}
 use Rattle.tam_eval.proofs.Accessors.{length-begun, activation-begun, activation-begun_other}
 
 module _ (g : Graph) (w v : World) where

@@ -11,7 +11,7 @@ use Rattle.tam_msgs.specs.declared.message.Message.TheVariants.{Frame as Begin, 
 use Rattle.tam_msgs.specs.declared.limits.Limits.{Limits}
 use Rattle.tam_msgs.specs.Runs.{run_from, End, Quiet, Double_write, Out_of_range, Frames_full, Cells_full, Budget_spent, Wild, Trap}
 use Rattle.tam_istr.specs.Cells.{cells_used}
-use Rattle.tam_flow.specs.Worlds.{Fault, Second_store, Outside_cells, opening}
+use Rattle.tam_world.specs.Worlds.{Fault, Second_store, Outside_cells, opening}
 use Rattle.tam_flow.specs.Journals.{State, Event, initial, is_legal, state_after, on_their_way, may_follow, IsQuiet}
 use Rattle.tam_flow.specs.JournalLaws.{IsJournal}
 use Rattle.tam_flow.specs.RunJournals.{IsCharged, EndsSo}

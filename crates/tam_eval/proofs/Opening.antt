@@ -8,7 +8,7 @@ use Rattle.tam_msgs.specs.declared.message.Message.{Message}
 use Rattle.tam_msgs.specs.declared.message.Message.TheVariants.{Word as Carry}
 use Rattle.tam_msgs.specs.declared.item.Item.{Item}
 use Rattle.tam_istr.specs.Cells.{Empty, Reader}
-use Rattle.tam_flow.specs.Worlds.{has_word, opening, argument_message}
+use Rattle.tam_world.specs.Worlds.{has_word, opening, argument_message}
 use Rattle.tam_flow.specs.Journals.{State, initial, has_run, on_their_way}
 use Rattle.tam_flow.specs.Reached.{IsThere, cell_at}
 use Rattle.tam_flow.proofs.OnTheWay.{way-is, way-all}

@@ -18,7 +18,7 @@ use Rattle.tam_split.specs.GraphPartitions.{singles}
 use Rattle.tam_split.specs.Blocks.{vertices_in, edges_among, block_graph}
 use Rattle.tam_split.proofs.BlockGraphs.{accepted-block}
 use Rattle.tam_split.proofs.Firers.{Firer, Giver, value-inner, firer-block, firer-fires, kind-there, giver-at, giver-inlet, operand-edge}
-use Rattle.tam_flow.specs.Worlds.{activation_at, its_code, has_word, has_entered}
+use Rattle.tam_world.specs.Worlds.{activation_at, its_code, has_word, has_entered}
 use Rattle.tam_flow.specs.Journals.{State, Event, Run, Deliver, has_run, on_their_way, may_follow, may_run, may_arrive}
 use Rattle.tam_flow.specs.Reached.{IsReached}
 use Rattle.tam_flow.proofs.SingleRuns.{BlockThere, MayRun, may_run-parts, classes, may_run-word, ran-before}

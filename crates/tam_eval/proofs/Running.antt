@@ -17,7 +17,7 @@ use Rattle.tam_msgs.specs.declared.item.Item.TheVariants.{Ready, Place}
 use Rattle.tam_msgs.specs.Runs.{End, Quiet, Double_write, Out_of_range, Frames_full, Cells_full, Budget_spent, Wild, Trap}
 use Rattle.tam_msgs.specs.Messages.{AreLimits}
 use Rattle.tam_istr.specs.Cells.{Arrays, cells_used}
-use Rattle.tam_flow.specs.Worlds.{World, Delivery, Went, Printed, Faulted, Fault, Second_store, Outside_cells, delivered, fired}
+use Rattle.tam_world.specs.Worlds.{World, Delivery, Went, Printed, Faulted, Fault, Second_store, Outside_cells, delivered, fired}
 use Rattle.tam_flow.specs.Journals.{State, Event, Deliver, on_their_way, may_follow}
 use Rattle.tam_word.proofs.Tests.{test-below}
 use Rattle.tam_eval.specs.GraphRuns.{GraphState, graph_step, chosen, some_ready, refusal, delivered_unless, after_delivery, end_of}

@@ -1,77 +1,42 @@
 -- The state after a node got a word, a block was entered, or a message was sent, as the evaluator makes it.
-use Rattle.std.proofs.Common.{◌≡◌, ◌∙◌, ℕ, zero, suc, ◌+◌, ◌<◌, ◌≤◌, nat_lt, Bool, true, false, List, [], ◌∷◌, ◌++◌}
-use Rattle.std.proofs.Common.{length, map, filter, get_or, slice_set, refl, sym, ap, arith, Ok, Err, Result, OnOk, is_ok, true≢false}
+use Rattle.std.proofs.Common.{◌≡◌, ◌∙◌, ℕ, ◌+◌, ◌≤◌, nat_lt, ◌==◌, Bool, true, false, List, [], ◌∷◌, ◌++◌}
+use Rattle.std.proofs.Common.{length, map, filter, refl, sym, ap, subst, Ok, Err, Result}
 use Rattle.std.proofs.lemmas.List.{append-nil}
-use Rattle.tam_word.specs.Lists.{changed_at}
-use Rattle.tam_istr.specs.Cells.{Arrays, cells_used, with_array}
-use Rattle.tam_word.proofs.Tests.{test-below}
 use Rattle.tam_msgs.specs.declared.limits.Limits.{Limits}
 use Rattle.tam_msgs.specs.declared.item.Item.{Item}
-use Rattle.tam_msgs.specs.declared.message.Message.TheVariants.{Word as Carry, Cells as Make}
-use Rattle.tam_msgs.specs.Runs.{End, Next, Ended}
 use Rattle.tam_msgs.specs.declared.message.Message.{Message}
+use Rattle.tam_msgs.specs.declared.message.Message.TheVariants.{Word as Carry}
+use Rattle.tam_msgs.specs.declared.stop.Stop.{Stop}
+use Rattle.tam_msgs.specs.declared.step.Step.{Step}
+use Rattle.tam_msgs.specs.declared.stop.Stop.TheVariants.{DoubleWrite, OutOfRange, FramesFull, CellsFull, BudgetSpent, NoMemory}
+use Rattle.tam_msgs.specs.Runs.{Outcome, Next, Ended}
+use Rattle.tam_msgs.specs.Messages.{answers}
+use Rattle.tam_istr.specs.CellAnswers.{reader_pair}
 use Rattle.tam_graph.specs.Graphs.{Graph, code_of}
-use Rattle.tam_flow.specs.Worlds.{World, ActivationState, its_code, has_word, has_entered, with_word, with_block, got, entered}
-use Rattle.tam_flow.specs.Worlds.{changes, sends_only, begun, Effect, Fault, Went, Faulted, delivered}
-use Rattle.tam_eval.proofs.Accessors.{with_begun}
-use Rattle.tam_eval.specs.GraphRuns.{is_enabled, refusal, delivered_unless, end_of}
-use Rattle.tam_eval.specs.Takers.{takers_of, firers_in, takers_now, firers_now, starters_of}
-use Rattle.tam_eval.specs.Machines.{EvalState, activation_of, activations_of}
+use Rattle.tam_world.specs.Worlds.{World, its_code, has_word, has_entered, got, entered, changes, sends_only}
+use Rattle.tam_world.specs.Worlds.{Effect, Delivery, Went, Printed, Faulted, Fault, Second_store, Outside_cells, delivered}
+use Rattle.tam_world.specs.Takers.{takers_of, firers_in, takers_now, firers_now, starters_of}
+use Rattle.tam_world.specs.Effects.{with_begun, effect_in, delivery_in, fault_of, LeavesWorld, GoesWell}
+use Rattle.tam_world.specs.declared.delivery.Delivery.{Delivery as Answer}
+use Rattle.tam_world.specs.declared.delivery.Delivery.TheVariants.{Went as Has_gone, Begins, Answered, Printed as Is_printed, Faulted as Has_fault}
+use Rattle.tam_eval.specs.GraphRuns.{GraphState, joins, is_enabled, refusal, delivered_unless, end_of, after_delivery, after_effect}
+use Rattle.tam_eval.specs.Machines.{EvalState}
 use Rattle.tam_eval.specs.Effects.{effected}
-use Rattle.tam_eval.specs.Events.{state_with}
-use Rattle.tam_eval.specs.declared.activation.Activation.{Activation}
-use Rattle.tam_eval.proofs.Joins.{joins-got_any, joins-entered_any, joins-unchanged, joins-begun_starters, joins-arrays, joins-arrays_alone}
-
--- what follows where a call went well
-pub on_ok : {T E : Type 0} {P Q : Type 0} (r : Result T E) → (P → Q) → OnOk r P → OnOk r Q
-on_ok (Ok v) follow holds = follow holds
-on_ok (Err e) follow holds = holds
-
--- what holds where a call went well
-pub ok_holds : {T E : Type 0} {P : Type 0} (r : Result T E) → is_ok r ≡ true → OnOk r P → P
-ok_holds (Ok v) went holds = holds
-ok_holds (Err e) went holds = absurd (true≢false (sym went))
-
--- an activation that isn't there isn't changed
-pub changed_at-past : {X : Type 0} (n : ℕ) (f : X → X) (xs : List X) → length xs ≤ n → changed_at n f xs ≡ xs
-changed_at-past n f [] past = refl
-changed_at-past zero f (x ∷ xs) past = absurd (omega arith)
-changed_at-past (suc n) f (x ∷ xs) past = ap (λ l. x ∷ l) (changed_at-past n f xs (omega arith))
-
--- an activation that was set
-pub activations-changed : (f : ActivationState → ActivationState) (before after : Activation) (i : ℕ) (activations : List Activation)
-    → i < length activations → before ≡ get_or activations i before → activation_of after ≡ f (activation_of before)
-    → activations_of (slice_set activations i after) ≡ changed_at i f (activations_of activations)
-activations-changed f before after i [] inside read is = absurd (omega arith)
-activations-changed f before after zero (a ∷ activations) inside read is =
-    ap (λ (x : ActivationState). x ∷ activations_of activations) (is ∙ ap (λ (x : Activation). f (activation_of x)) read)
-activations-changed f before after (suc i) (a ∷ activations) inside read is =
-    ap (λ (l : List ActivationState). activation_of a ∷ l) (activations-changed f before after i activations (omega arith) read is)
-
--- cells within the limit aren't refused
-pub cells-allowed : (limits : Limits) (w : World) (n f x : ℕ) → cells_used w.arrays + n ≤ limits.cells → refusal limits w (Make n f x) ≡ []
-cells-allowed limits w n f x within = go (nat_lt limits.cells (cells_used w.arrays + n)) refl
-  where
-    go : (b : Bool) → nat_lt limits.cells (cells_used w.arrays + n) ≡ b → refusal limits w (Make n f x) ≡ []
-    go true e = absurd (omega (arith, test-below limits.cells (cells_used w.arrays + n) e))
-    go false e = rw (refusal, e) refl
+use Rattle.tam_eval.specs.Events.{state_with, IsOutcome, IsStopOf, RefusedSo, GoesOn}
+use Rattle.tam_eval.proofs.Joins.{joins-got_any, joins-entered_any, joins-unchanged, joins-begun_starters}
 
 module _ (g : Graph) (s : EvalState) where
-  -- the world with other activations
-  abbrev pub with_activations : List ActivationState → World
-  with_activations activations = record s.world { activations = activations }
-
   -- a node got a word
-  pub state-got : (i y v : ℕ) (activations : List ActivationState) (ready : List (ℕ × ℕ)) → activations ≡ changed_at i (with_word y v) s.world.activations
-      → ready ≡ s.ready ++ map (λ x. (i, x)) (filter (is_enabled g (with_activations activations) i) (takers_now g s.world i y))
-      → record s { world = with_activations activations; ready = ready } ≡ effected g s (changes (got s.world i y v))
-  state-got i y v activations ready changed more = rw (more, changed, joins-got_any g s.world i y v, append-nil s.pending) refl
+  pub state-got : (i y v : ℕ) (world : World) (ready : List (ℕ × ℕ)) → world ≡ got s.world i y v
+      → ready ≡ s.ready ++ map (λ x. (i, x)) (filter (is_enabled g world i) (takers_now g s.world i y))
+      → record s { world = world; ready = ready } ≡ effected g s (changes (got s.world i y v))
+  state-got i y v world ready changed more = rw (more, changed, joins-got_any g s.world i y v, append-nil s.pending) refl
 
   -- a block was entered
-  pub state-entered : (i b : ℕ) (activations : List ActivationState) (ready : List (ℕ × ℕ)) → activations ≡ changed_at i (with_block b) s.world.activations
-      → ready ≡ s.ready ++ map (λ x. (i, x)) (filter (is_enabled g (with_activations activations) i) (firers_now g s.world i b))
-      → record s { world = with_activations activations; ready = ready } ≡ effected g s (changes (entered s.world i b))
-  state-entered i b activations ready changed more = rw (more, changed, joins-entered_any g s.world i b, append-nil s.pending) refl
+  pub state-entered : (i b : ℕ) (world : World) (ready : List (ℕ × ℕ)) → world ≡ entered s.world i b
+      → ready ≡ s.ready ++ map (λ x. (i, x)) (filter (is_enabled g world i) (firers_now g s.world i b))
+      → record s { world = world; ready = ready } ≡ effected g s (changes (entered s.world i b))
+  state-entered i b world ready changed more = rw (more, changed, joins-entered_any g s.world i b, append-nil s.pending) refl
 
   -- it had one before
   pub ready-had : (i y : ℕ) (test : ℕ → Bool) → has_word s.world i y ≡ true → s.ready ≡ s.ready ++ map (λ x. (i, x)) (filter test (takers_now g s.world i y))
@@ -89,60 +54,84 @@ module _ (g : Graph) (s : EvalState) where
   pub firers-first : (i b : ℕ) → has_entered s.world i b ≡ false → firers_now g s.world i b ≡ firers_in (its_code g s.world i) b
   firers-first i b had = rw (firers_now, had) refl
 
-  -- a message was sent
-  pub state-sent : (message : Message) → record s { pending = s.pending ++ message ∷ [] } ≡ effected g s (sends_only s.world (message ∷ []))
-  state-sent message = rw (joins-unchanged g s.world, append-nil s.ready) refl
+  -- messages were sent
+  pub state-sent : (messages pending : List Message) → pending ≡ s.pending ++ messages
+      → record s { pending = pending } ≡ effected g s (sends_only s.world messages)
+  state-sent messages pending is = rw (is, joins-unchanged g s.world, append-nil s.ready) refl
 
   -- nothing was done
   pub state-same : s ≡ effected g s (changes s.world)
   state-same = rw (joins-unchanged g s.world, append-nil s.ready, append-nil s.pending) refl
 
   -- an activation began
-  pub state-begun : (k f x number : ℕ) (activations : List ActivationState) (ready : List (ℕ × ℕ)) (pending : List Message)
-      → activations ≡ s.world.activations ++ begun k f x ∷ [] → number ≡ length s.world.activations
+  pub state-begun : (k f x number : ℕ) (world : World) (ready : List (ℕ × ℕ)) (pending : List Message)
+      → world ≡ with_begun s.world k f x → number ≡ length s.world.activations
       → ready ≡ s.ready ++ map (λ z. (number, z)) (starters_of (code_of g k)) → pending ≡ s.pending ++ Carry f x number ∷ []
-      → record s { world = with_activations activations; ready = ready; pending = pending }
+      → record s { world = world; ready = ready; pending = pending }
       ≡ effected g s (sends_only (with_begun s.world k f x) (Carry f x (length s.world.activations) ∷ []))
-  state-begun k f x number activations ready pending longer count more sent =
-      rw (longer, more, sent, count, joins-begun_starters g s.world k f x) refl
+  state-begun k f x number world ready pending begins count more sent = rw (begins, more, sent, count, joins-begun_starters g s.world k f x) refl
 
-  -- an array was made
-  pub state-made : (n f x number : ℕ) (arrays : Arrays) (makers : List (ℕ × ℕ)) (pending : List Message)
-      → arrays ≡ with_array s.world.arrays n → makers ≡ s.world.makers ++ (f, x) ∷ [] → number ≡ length s.world.arrays
-      → pending ≡ s.pending ++ Carry f x number ∷ []
-      → record s { world = record s.world { arrays = arrays; makers = makers }; pending = pending }
-      ≡ effected g s (sends_only (record s.world {
-        arrays = with_array s.world.arrays n;
-        makers =
-            s.world.makers ++ (f, x) ∷ [];
-      }) (Carry f x (length s.world.arrays) ∷ []))
-  state-made n f x number arrays makers pending made noted count sent =
-      rw (made, noted, sent, count, joins-arrays g s.world (with_array s.world.arrays n) (s.world.makers ++ (f, x) ∷ []), append-nil s.ready) refl
+-- ---- deliveries
 
-  -- cells changed
-  pub state-arrays : (arrays : Arrays) → record s { world = record s.world { arrays = arrays } } ≡ effected g s (changes (record s.world { arrays = arrays }))
-  state-arrays arrays = rw (joins-arrays_alone g s.world arrays, append-nil s.ready, append-nil s.pending) refl
+-- which vertices become ready depends on activations alone
+joins-alike : (g : Graph) (v w u : World) → v.activations ≡ w.activations → joins g v u ≡ joins g w u
+joins-alike g v w u same = ap (λ (l : List _). joins g (record { activations = l; arrays = []; makers = [] }) u) same
 
-  -- cells changed, and messages were sent
-  pub state-cells : (arrays : Arrays) (messages : List Message)
-      → record s { world = record s.world { arrays = arrays }; pending = s.pending ++ messages } ≡ effected g s (sends_only (record s.world {
-        arrays =
-            arrays;
-      }) messages)
-  state-cells arrays messages = rw (joins-arrays_alone g s.world arrays, append-nil s.ready) refl
+-- what comes of a delivery that the world has made is what comes of the delivery
+pub settled-same : (g : Graph) (s : GraphState) (w : World) (d : Answer) → w.activations ≡ s.world.activations → LeavesWorld s.world w d
+    → after_delivery g (record s { world = w }) (delivery_in w d) ≡ after_delivery g s (delivery_in w d)
+settled-same g s w (Is_printed k v) same left = ap (λ (u : World). after_delivery g (record s { world = u }) (Printed k v)) left
+settled-same g s w (Has_fault f) same left = ap (λ (u : World). after_delivery g (record s { world = u }) (Faulted (fault_of f))) left
+settled-same g s w (Has_gone e) same left = ap (λ (l : List (ℕ × ℕ)). Next (with_list l)) (joins-alike g w s.world (effect_in w e).world same)
+  where
+    with_list : List (ℕ × ℕ) → GraphState
+    with_list l = record s { world = (effect_in w e).world; ready = s.ready ++ l; pending = s.pending ++ (effect_in w e).sends }
+settled-same g s w (Begins c f) same left = ap (λ (l : List (ℕ × ℕ)). Next (with_list l)) (joins-alike g w s.world (with_begun w c f.activation f.node) same)
+  where
+    with_list : List (ℕ × ℕ) → GraphState
+    with_list l = record s {
+      world = with_begun w c f.activation f.node;
+      ready = s.ready ++ l;
+      pending = s.pending ++ Carry f.activation f.node (length w.activations) ∷ [];
+    }
+settled-same g s w (Answered v rs) same left = ap (λ (l : List (ℕ × ℕ)). Next (with_list l)) (joins-alike g w s.world w same)
+  where
+    with_list : List (ℕ × ℕ) → GraphState
+    with_list l = record s { world = w; ready = s.ready ++ l; pending = s.pending ++ answers v (map reader_pair rs.items) }
 
-  module _ (limits : Limits) (m : Message) (order : List Item) (printed : List (ℕ × ℕ)) where
-    -- a delivery that went
-    pub outcome-went : (e : Effect) (new : EvalState) → refusal limits s.world m ≡ [] → delivered s.world m ≡ Went e → new ≡ effected g s e
-        → delivered_unless g (state_with s order printed) m (refusal limits s.world m) ≡ Next (state_with new order printed)
-    outcome-went e new none went is = rw (none, went, is) refl
+-- memory is wanted only where the run would go on
+goes-on : (g : Graph) (s : GraphState) (d : Delivery) → GoesWell d → GoesOn (after_delivery g s d)
+goes-on g s (Went e) well = tt
+goes-on g s (Printed k v) well = tt
+goes-on g s (Faulted f) well = absurd well
 
-    -- one that the limits refuse
-    pub outcome-refused : (e : End) → refusal limits s.world m ≡ e ∷ []
-        → delivered_unless g (state_with s order printed) m (refusal limits s.world m) ≡ Ended e (state_with s order printed)
-    outcome-refused e refused = rw refused refl
+-- a fault is told by its stop
+pub faulted-so : (g : Graph) (s : EvalState) (f : Fault) (stop : Stop) (order : List Item) (printed : List (ℕ × ℕ)) → IsStopOf f stop
+    → IsOutcome (Ended (end_of f) (state_with s order printed)) s order printed (Err stop)
+faulted-so g s (Second_store a b) stop order printed is = rw is refl
+faulted-so g s (Outside_cells a i n) stop order printed is = rw is refl
 
-    -- one that finds a fault
-    pub outcome-faulted : (f : Fault) (new : EvalState) → refusal limits s.world m ≡ [] → delivered s.world m ≡ Faulted f → new ≡ s
-        → delivered_unless g (state_with s order printed) m (refusal limits s.world m) ≡ Ended (end_of f) (state_with new order printed)
-    outcome-faulted f new none faulted same = rw (none, faulted, same) refl
+module _ (g : Graph) (limits : Limits) (s : EvalState) (m : Message) (order : List Item) (printed : List (ℕ × ℕ)) where
+  -- what the limits refuse
+  pub outcome-refused : (stop : Stop) → RefusedSo (refusal limits s.world m) (Err stop)
+      → IsOutcome (delivered_unless g (state_with s order printed) m (refusal limits s.world m)) s order printed (Err stop)
+  outcome-refused (FramesFull n) is = rw is refl
+  outcome-refused (CellsFull used n) is = rw is refl
+  outcome-refused (DoubleWrite a b) is = absurd is
+  outcome-refused (OutOfRange a i n) is = absurd is
+  outcome-refused (BudgetSpent n) is = absurd is
+  outcome-refused NoMemory is = absurd is
+
+  module _ (room : refusal limits s.world m ≡ []) where
+    -- what comes of a delivery that the world has made
+    pub outcome-settled : (w : World) (d : Answer) (new : EvalState) (result : Result Step Stop) → w.activations ≡ s.world.activations
+        → LeavesWorld s.world w d → delivery_in w d ≡ delivered s.world m
+        → IsOutcome (after_delivery g (state_with (record s { world = w }) order printed) (delivery_in w d)) new order printed result
+        → IsOutcome (delivered_unless g (state_with s order printed) m (refusal limits s.world m)) new order printed result
+    outcome-settled w d new result same left is settled = rw room (subst (λ (o : Outcome GraphState). IsOutcome o new order printed result)
+        (settled-same g (state_with s order printed) w d same left ∙ ap (after_delivery g (state_with s order printed)) is) settled)
+
+    -- memory was wanted
+    pub outcome-wants : GoesWell (delivered s.world m)
+        → GoesOn (delivered_unless g (state_with s order printed) m (refusal limits s.world m))
+    outcome-wants well = rw room (goes-on g (state_with s order printed) (delivered s.world m) well)

@@ -10,7 +10,7 @@ use Rattle.tam_split.specs.GraphPartitions.{singles}
 use Rattle.tam_split.proofs.Firers.{Firer, is_inner, firer-node, firer-no_inlet}
 use Rattle.tam_msgs.specs.declared.message.Message.{Message}
 use Rattle.tam_istr.specs.Cells.{Empty}
-use Rattle.tam_flow.specs.Worlds.{World, its_code, has_word, has_entered}
+use Rattle.tam_world.specs.Worlds.{World, its_code, has_word, has_entered}
 use Rattle.tam_flow.specs.Journals.{State, Event, has_run, on_their_way, is_legal_from, state_from, may_follow, after_event}
 use Rattle.tam_flow.specs.Reached.{IsThere, IsReached, cell_at}
 use Rattle.tam_flow.proofs.SingleRuns.{InletAt}

@@ -5,7 +5,7 @@ use Rattle.tam_word.proofs.Tests.{both-true, true-both, number-eq, eq-number}
 use Rattle.tam_word.proofs.Members.{In, in-filter, filter-in, in-below, below-in}
 use Rattle.tam_word.proofs.Sifted.{filter-twice, filter-below_more}
 use Rattle.tam_graph.specs.Graphs.{Code, kind_at, block_at, operands_of, fires, nodes_in, node_numbers}
-use Rattle.tam_eval.specs.Takers.{takers_of, firers_in, starters_of, is_none}
+use Rattle.tam_world.specs.Takers.{takers_of, firers_in, starters_of, is_none}
 
 -- the node fires and takes the word of node y
 abbrev pub is_taker : Code → ℕ → ℕ → Bool

@@ -9,8 +9,8 @@ use Rattle.tam_msgs.specs.declared.message.Message.TheVariants.{Word as Carry, F
 use Rattle.tam_msgs.specs.Messages.{outside}
 use Rattle.tam_istr.specs.Cells.{Arrays, Cell, Empty, Filled, Access, Now, Deferred, Stored, Twice, NotBelow, NoArray, with_array}
 use Rattle.tam_istr.specs.Cells.{fetch_of, store_of, in_array, fetched_from, stored_into}
-use Rattle.tam_flow.specs.Worlds.{World, Delivery, Went, Printed, Faulted, its_code, begun, with_word, got, all_got, merges_of, words_of}
-use Rattle.tam_flow.specs.Worlds.{firing_of, fired_with, fired, accessed, delivered}
+use Rattle.tam_world.specs.Worlds.{World, Delivery, Went, Printed, Faulted, its_code, begun, with_word, got, all_got, merges_of, words_of}
+use Rattle.tam_world.specs.Worlds.{firing_of, fired_with, fired, accessed, delivered}
 use Rattle.tam_flow.proofs.Moves.{length-push}
 use Rattle.tam_flow.proofs.DeliveryChanges.{arrays-fired}
 use Rattle.tam_word.proofs.Each.{length-changed_at}

@@ -8,11 +8,14 @@ use Rattle.tam_msgs.specs.declared.stop.Stop.{Stop}
 use Rattle.tam_msgs.specs.declared.stop.Stop.TheVariants.{DoubleWrite, OutOfRange, FramesFull, CellsFull, BudgetSpent, NoMemory}
 use Rattle.tam_msgs.specs.declared.choice.Choice.{Choice}
 use Rattle.tam_msgs.specs.declared.choice.Choice.TheVariants.{Quiet as Choose_quiet, Run as Choose_run, Deliver as Choose_delivery}
-use Rattle.tam_msgs.specs.Runs.{choice, Quiet, Double_write, Out_of_range, Frames_full, Cells_full, Budget_spent, Outcome, Next, Ended}
+use Rattle.tam_msgs.specs.Runs.{choice, Quiet, Double_write, Out_of_range, Frames_full, Cells_full, Budget_spent, End, Outcome, Next, Ended}
 use Rattle.tam_word.specs.Lists.{below}
 use Rattle.tam_graph.specs.Graphs.{Graph}
-use Rattle.tam_flow.specs.Worlds.{opening, argument_message}
-use Rattle.tam_eval.specs.GraphRuns.{GraphState, joins, nothing_begun, some_ready, graph_step, refusal, delivered_unless, fired_first, counted, delivered_at}
+use Rattle.tam_world.specs.Worlds.{opening, argument_message, Fault, Second_store, Outside_cells}
+use Rattle.tam_world.specs.Effects.{delivery_in}
+use Rattle.tam_world.specs.declared.delivery.Delivery.{Delivery}
+use Rattle.tam_eval.specs.GraphRuns.{GraphState, joins, nothing_begun, some_ready, graph_step, refusal, after_delivery, delivered_unless, fired_first}
+use Rattle.tam_eval.specs.GraphRuns.{counted, delivered_at}
 use Rattle.tam_eval.specs.Machines.{EvalState, state_of}
 use Rattle.tam_eval.specs.declared.machine.Machine.{Machine}
 use Rattle.tam_msgs.specs.declared.message.Message.{Message}
@@ -100,6 +103,27 @@ IsEvent old new order order' result (Some stop) = (result ≡ Err stop) × (new 
 IsEvent old new order order' result None =
     ((printed : List (ℕ × ℕ)) → IsOutcome (graph_step old.graph old.limits (state_with old.state order printed)) new.state order' printed result)
     × (new.stopped ≡ stop_of result) × LeavesAtQuiet old.state new.state order order' result × IsAnswerOf (next_choice old.state order) result
+
+-- the limits have room, or refuse so
+abbrev pub RefusedSo : List End → Result Unit Stop → Type 0
+RefusedSo ends (Ok u) = ends ≡ []
+RefusedSo ends (Err (FramesFull n)) = ends ≡ Frames_full n ∷ []
+RefusedSo ends (Err (CellsFull used n)) = ends ≡ Cells_full used n ∷ []
+RefusedSo ends (Err (DoubleWrite first second)) = ⊥
+RefusedSo ends (Err (OutOfRange a i n)) = ⊥
+RefusedSo ends (Err (BudgetSpent n)) = ⊥
+RefusedSo ends (Err NoMemory) = ⊥
+
+-- the stop tells the fault
+abbrev pub IsStopOf : Fault → Stop → Type 0
+IsStopOf (Second_store first second) stop = stop ≡ DoubleWrite first second
+IsStopOf (Outside_cells site index len) stop = stop ≡ OutOfRange site index len
+
+-- the answer is what comes of a delivery that the world has made
+abbrev pub Settles : Graph → Machine → Machine → Delivery → Result Step Stop → Type 0
+Settles g old new delivery result =
+    (order : List Item) (printed : List (ℕ × ℕ))
+    → IsOutcome (after_delivery g (state_with (state_of old) order printed) (delivery_in (state_of old).world delivery)) (state_of new) order printed result
 
 -- the answer is what comes of the delivery of a message
 abbrev pub Delivers : Graph → Limits → Machine → Machine → Message → Result Step Stop → Type 0

@@ -7,8 +7,8 @@ use Rattle.tam_msgs.specs.declared.message.Message.TheVariants.{Frame as Begin, 
 use Rattle.tam_msgs.specs.declared.limits.Limits.{Limits}
 use Rattle.tam_graph.specs.Graphs.{Graph, code_of, kind_at, block_at, operands_of, fires, node_numbers, results_of}
 use Rattle.tam_istr.specs.Cells.{cells_used}
-use Rattle.tam_flow.specs.Worlds.{World, Effect, Delivery, Went, Printed, Faulted, Fault, Second_store, Outside_cells, its_code, has_word, has_entered, fired}
-use Rattle.tam_flow.specs.Worlds.{delivered, opening, argument_message}
+use Rattle.tam_world.specs.Worlds.{World, Effect, Delivery, Went, Printed, Faulted, Fault, Second_store, Outside_cells, its_code, has_word, has_entered, fired}
+use Rattle.tam_world.specs.Worlds.{delivered, opening, argument_message}
 use Rattle.tam_msgs.specs.Runs.{choice, End, Quiet, Double_write, Out_of_range, Frames_full, Cells_full, Budget_spent, Outcome, Next, Ended, run_from, Report}
 use Rattle.tam_msgs.specs.Runs.{text_of}
 use Rattle.tam_msgs.specs.declared.choice.Choice.{Choice}

@@ -8,11 +8,10 @@ ghost use Rattle.tam_eval.specs.Events.{state_with, IsOutcome, IsRun, IsDelivery
 ghost use Rattle.tam_eval.specs.Events.{LeavesAtQuiet, Delivers, FiresFirst, DeliversAt, Advances};
 
 use crate::delivering::deliver;
-use crate::firing::fire;
 use crate::machine::Machine;
-use crate::program::Program;
-use tam_edge::NoMemory;
+use crate::steps::apply;
 use tam_msgs::{Choice, Limits, Order, Step, Stop};
+use tam_world::{Program, firing};
 
 // The vertex that became ready first fires.
 fn run_first(program: &Program<'_>, machine: &mut Machine) -> Result<Step, Stop>
@@ -22,14 +21,13 @@ fn run_first(program: &Program<'_>, machine: &mut Machine) -> Result<Step, Stop>
     ensures sizes { CountsEvent machine.old machine.new }
     ensures goes { IsRun result }
 {
-    let Some((i, x)) = machine.ready.pop_front() else {
+    let Some(at) = machine.ready.pop_front() else {
         unreachable!();
     };
     machine.events += 1;
-    match fire(program, machine, i, x) {
-        Ok(()) => Ok(Step::Ran),
-        Err(NoMemory) => Err(Stop::NoMemory),
-    }
+    let effect = firing(program, &machine.world, at);
+    apply(program, machine, effect)?;
+    Ok(Step::Ran)
 }
 
 // The message at a place is delivered.

@@ -1,26 +1,21 @@
 // A run of a graph, event by event.
-ghost use Rattle.std.specs.Prelude.{ℕ, List, ◌≡◌, ◌+◌, ◌<◌, ◌≤◌, ◌^◌, ◌++◌, None, length, zip, flat_map, OnOk, IfOk, option_to_list};
-ghost use Rattle.tam_word.specs.Lists.{below};
+ghost use Rattle.std.specs.Prelude.{◌≡◌, ◌≤◌, None, length, IfOk};
 ghost use Rattle.tam_istr.specs.Cells.{cells_used};
 ghost use Rattle.tam_msgs.specs.Messages.{AreLimits};
 ghost use Rattle.tam_graph.specs.Graphs.{AreArguments};
-ghost use Rattle.tam_flow.specs.Worlds.{argument_message};
-ghost use Rattle.tam_eval.specs.Machines.{state_of, IsWithinLimits};
+ghost use Rattle.tam_eval.specs.Machines.{state_of};
 ghost use Rattle.tam_eval.specs.Events.{opening_state, IsEvent};
 
-use crate::activation::{Activation, OUTSIDE};
 use crate::advancing::advance;
-use crate::delivering::ready_all;
-use crate::finding::{Sought, find_node};
 use crate::machine::Machine;
-use crate::program::Program;
+use crate::steps::{ready_all, send_all};
 use std::alloc::Global;
 use std::collections::VecDeque;
 use std::marker::Model;
 use tam_edge::NoMemory;
 use tam_graph::Accepted;
-use tam_istr::Cells;
-use tam_msgs::{Counts, Limits, Message, Order, Pending, Step, Stop};
+use tam_msgs::{Counts, Limits, Order, Pending, Step, Stop};
+use tam_world::{Program, World, argument_messages};
 
 /// A run of an accepted graph. The caller keeps the order list and the results printed.
 #[derive(Drop)]
@@ -60,7 +55,7 @@ impl<'g> Eval<'g> {
         let main = g.main();
         let _params = g.params(main);
         let program = Program::new(alloc, g.graph())?;
-        let machine = opening(alloc, &program, main, args, &limits)?;
+        let machine = opening(alloc, &program, main, args)?;
         Ok(Eval {
             program,
             machine,
@@ -98,8 +93,8 @@ impl<'g> Eval<'g> {
     {
         Counts {
             events: self.machine.events,
-            activations: self.machine.activations.len() as u32,
-            cells: self.machine.cells.used(),
+            activations: self.machine.world.activations() as u32,
+            cells: self.machine.world.cells_used() as u32,
         }
     }
 }
@@ -110,80 +105,23 @@ fn opening(
     program: &Program<'_>,
     main: u32,
     args: &[u32],
-    limits: &Limits,
 ) -> Result<Machine, NoMemory>
     requires main { main ≡ program.now.main }
     requires args { length args.now ≤ 64 }
-    requires limits { AreLimits limits.now }
     ensures value { IfOk result (λ machine. state_of machine ≡ opening_state program.now args.now) }
-    ensures within { IfOk result (λ machine. IsWithinLimits machine limits.now) }
 {
-    let mut activations = Vec::new(alloc);
-    let root = Activation::begun(alloc, main, OUTSIDE, 0)?;
-    if activations.push(root).is_err() {
-        return Err(NoMemory);
-    }
+    let world = World::opening(alloc, main)?;
     let mut ready = VecDeque::new(alloc);
     ready_all(&mut ready, 0, program.starters(main))?;
     let mut pending = Pending::new(alloc);
-    send_arguments(program, main, args, &mut pending)?;
+    send_all(
+        &mut pending,
+        &argument_messages(alloc, program, main, args)?,
+    )?;
     Ok(Machine {
-        alloc,
-        activations,
-        cells: Cells::new(alloc, limits.cells),
-        makers: Vec::new(alloc),
+        world,
         ready,
         pending,
         events: 0,
     })
-}
-
-// The message of an argument of the root.
-fn argument_message(program: &Program<'_>, main: u32, place: u32, word: u32) -> Option<Message>
-    requires main { main ≡ program.now.main }
-    ensures { option_to_list result ≡ argument_message program.now (place, word) }
-{
-    match find_node(program, main, Sought::Param { place }) {
-        Some(inlet) => Some(Message::Word {
-            frame: 0,
-            inlet,
-            word,
-        }),
-        None => None,
-    }
-}
-
-// The message, if there is one, is sent.
-fn send_some(pending: &mut Pending, message: Option<Message>) -> Result<(), NoMemory>
-    ensures { OnOk result (pending.new.messages ≡ pending.old.messages ++ option_to_list message) }
-{
-    match message {
-        Some(message) => {
-            if pending.send(message).is_err() {
-                return Err(NoMemory);
-            }
-            Ok(())
-        }
-        None => Ok(()),
-    }
-}
-
-// One message per argument, in the order of places.
-fn send_arguments(
-    program: &Program<'_>,
-    main: u32,
-    args: &[u32],
-    pending: &mut Pending,
-) -> Result<(), NoMemory>
-    requires main { main ≡ program.now.main }
-    requires args { length args.now ≤ 64 }
-    ensures { OnOk result (pending.new.messages ≡ pending.old.messages ++ flat_map (argument_message program.now) (zip (below (length args.now)) args.now)) }
-{
-    for (place, word) in args.iter().enumerate() {
-        send_some(
-            pending,
-            argument_message(program, main, place as u32, *word),
-        )?;
-    }
-    Ok(())
 }

@@ -1,70 +1,50 @@
-// What a firing changes.
-ghost use Rattle.std.specs.Prelude.{ℕ, ◌≡◌, [], ◌∷◌, ◌++◌, length, OnOk, option_to_list};
-ghost use Rattle.tam_word.specs.Lists.{changed_at};
-ghost use Rattle.tam_graph.specs.Graphs.{Graph};
-ghost use Rattle.tam_flow.specs.Worlds.{with_word, with_block, got, all_got, entered, changes, sends_only};
-ghost use Rattle.tam_eval.specs.Machines.{activations_of, state_of, sizes_of};
-ghost use Rattle.tam_eval.specs.Effects.{effected, HasEffect};
+// What an event changes in a run.
+ghost use Rattle.std.specs.Prelude.{◌≡◌, ◌+◌, ◌<◌, ◌≤◌, ◌^◌, ◌++◌, ◌∷◌, [], length, map, OnOk};
+ghost use Rattle.tam_istr.specs.CellAnswers.{reader_pair};
+ghost use Rattle.tam_msgs.specs.Messages.{answers};
+ghost use Rattle.tam_world.specs.Worlds.{got, entered, changes, sends_only};
+ghost use Rattle.tam_world.specs.Kept.{pairs_of};
+ghost use Rattle.tam_world.specs.Effects.{effect_in, with_begun};
+ghost use Rattle.tam_eval.specs.Machines.{sizes_of, Grows};
+ghost use Rattle.tam_eval.specs.Effects.{HasEffect};
 
-use crate::activation::Activation;
-use crate::machine::{Machine, code_at, has_entered, has_word, ready_among};
-use crate::program::Program;
+use crate::machine::{Machine, ready_among};
+use std::alloc::AllocError;
+use std::collections::VecDeque;
 use tam_edge::NoMemory;
-use tam_msgs::Message;
-
-// A node of an activation gets a word.
-fn put_word(activations: &mut Vec<Activation>, i: u32, node: u32, word: u32) -> Result<(), NoMemory>
-    ensures value { OnOk result (activations_of activations.new.items ≡ changed_at i (with_word node word) (activations_of activations.old.items)) }
-    ensures count { length activations.new.items ≡ length activations.old.items }
-{
-    if i as usize >= activations.len() {
-        return Ok(());
-    }
-    let activation = &mut activations[i as usize];
-    activation.put_word(node, word)
-}
-
-// An activation enters a block.
-fn put_block(activations: &mut Vec<Activation>, i: u32, block: u32) -> Result<(), NoMemory>
-    ensures value { OnOk result (activations_of activations.new.items ≡ changed_at i (with_block block) (activations_of activations.old.items)) }
-    ensures count { length activations.new.items ≡ length activations.old.items }
-{
-    if i as usize >= activations.len() {
-        return Ok(());
-    }
-    let activation = &mut activations[i as usize];
-    activation.enter(block)
-}
+use tam_istr::Reader;
+use tam_msgs::{Message, Pending};
+use tam_world::{Effect, NodeAt, Program};
 
 // A node gets a word, and those of its takers become ready that may fire now.
-pub(crate) fn give_word(
+fn give_word(
     program: &Program<'_>,
     machine: &mut Machine,
-    i: u32,
-    node: u32,
+    at: NodeAt,
     word: u32,
 ) -> Result<(), NoMemory>
-    ensures value { HasEffect program.now machine.old machine.new (λ w. changes (got w i node word)) result }
+    ensures value { HasEffect program.now machine.old machine.new (λ w. changes (got w at.activation at.node word)) result }
     ensures sizes { sizes_of machine.new ≡ sizes_of machine.old }
 {
-    let had = has_word(&machine.activations, i, node);
-    let code = code_at(&machine.activations, i);
-    put_word(&mut machine.activations, i, node, word)?;
+    let had = machine.world.has_word(at.activation, at.node);
+    let code = machine.world.code_at(at.activation);
+    machine.world.give(at, word)?;
     if had {
         return Ok(());
     }
-    let takers = program.takers(code, node);
+    let takers = program.takers(code, at.node);
     ready_among(
         program.graph(),
-        &machine.activations,
+        &machine.world,
         &mut machine.ready,
-        i,
+        at.activation,
         takers,
-    )
+    )?;
+    Ok(())
 }
 
 // A block is entered, and those of its nodes become ready that may fire now.
-pub(crate) fn enter_block(
+fn enter_block(
     program: &Program<'_>,
     machine: &mut Machine,
     i: u32,
@@ -73,59 +53,117 @@ pub(crate) fn enter_block(
     ensures value { HasEffect program.now machine.old machine.new (λ w. changes (entered w i block)) result }
     ensures sizes { sizes_of machine.new ≡ sizes_of machine.old }
 {
-    let had = has_entered(&machine.activations, i, block);
-    let code = code_at(&machine.activations, i);
-    put_block(&mut machine.activations, i, block)?;
+    let had = machine.world.has_entered(i, block);
+    let code = machine.world.code_at(i);
+    machine.world.enter(i, block)?;
     if had {
         return Ok(());
     }
     let firers = program.firers(code, block);
     ready_among(
         program.graph(),
-        &machine.activations,
+        &machine.world,
         &mut machine.ready,
         i,
         firers,
-    )
-}
-
-// The node found, if one was, gets a word.
-pub(crate) fn give_found(
-    program: &Program<'_>,
-    machine: &mut Machine,
-    i: u32,
-    found: Option<u32>,
-    word: u32,
-) -> Result<(), NoMemory>
-    ensures value { HasEffect program.now machine.old machine.new (λ w. changes (all_got w i (option_to_list found) word)) result }
-    ensures sizes { sizes_of machine.new ≡ sizes_of machine.old }
-{
-    match found {
-        Some(node) => give_word(program, machine, i, node, word),
-        None => Ok(()),
-    }
+    )?;
+    Ok(())
 }
 
 // A message is sent.
-pub(crate) fn send(machine: &mut Machine, message: Message) -> Result<(), NoMemory>
-    ensures value { OnOk result ((g : Graph) → state_of machine.new ≡ effected g (state_of machine.old) (sends_only (state_of machine.old).world
-        (message ∷ []))) }
-    ensures sizes { sizes_of machine.new ≡ sizes_of machine.old }
+fn send(pending: &mut Pending, message: Message) -> Result<(), NoMemory>
+    ensures ok { OnOk result (pending.new.messages ≡ pending.old.messages ++ message ∷ []) }
 {
-    if machine.pending.send(message).is_err() {
-        return Err(NoMemory);
+    match pending.send(message) {
+        Ok(()) => Ok(()),
+        Err((_, error)) => Err(error),
+    }
+}
+
+// Messages are sent, in order.
+pub(crate) fn send_all(pending: &mut Pending, messages: &[Message]) -> Result<(), NoMemory>
+    ensures ok { OnOk result (pending.new.messages ≡ pending.old.messages ++ messages.now) }
+{
+    for message in messages {
+        send(pending, *message)?;
     }
     Ok(())
 }
 
-// The message, if there is one, is sent.
-pub(crate) fn send_found(machine: &mut Machine, message: Option<Message>) -> Result<(), NoMemory>
-    ensures value { OnOk result ((g : Graph) → state_of machine.new ≡ effected g (state_of machine.old) (sends_only (state_of machine.old).world
-        (option_to_list message))) }
+// The word of a cell goes to those who waited for it.
+pub(crate) fn send_answers(
+    pending: &mut Pending,
+    word: u32,
+    readers: &[Reader],
+) -> Result<(), NoMemory>
+    ensures ok { OnOk result (pending.new.messages ≡ pending.old.messages ++ answers word (map reader_pair readers.now)) }
+{
+    for reader in readers {
+        let message = Message::Word {
+            frame: reader.frame,
+            inlet: reader.inlet,
+            word,
+        };
+        send(pending, message)?;
+    }
+    Ok(())
+}
+
+// All the nodes become ready.
+pub(crate) fn ready_all(
+    ready: &mut VecDeque<NodeAt>,
+    i: u32,
+    nodes: &[u32],
+) -> Result<(), AllocError>
+    ensures ok { OnOk result (pairs_of ready.new.items ≡ pairs_of ready.old.items ++ map (λ x. (i, x)) nodes.now) }
+{
+    for node in nodes {
+        ready.push_back(NodeAt {
+            activation: i,
+            node: *node,
+        })?;
+    }
+    Ok(())
+}
+
+// An activation begins, and its number goes to the call.
+pub(crate) fn begin(
+    program: &Program<'_>,
+    machine: &mut Machine,
+    code: u32,
+    call: NodeAt,
+) -> Result<(), NoMemory>
+    requires few { length machine.old.world.activations < 2 ^ 32 }
+    ensures value { HasEffect program.now machine.old machine.new (λ w. sends_only (with_begun w code call.activation call.node) (Message.Word call.activation
+        call.node (length w.activations) ∷ [])) result }
+    ensures grows { Grows machine.old machine.new 1 }
+{
+    let word = machine.world.activations() as u32;
+    machine.world.begin(code, call)?;
+    ready_all(&mut machine.ready, word, program.starters(code))?;
+    send(
+        &mut machine.pending,
+        Message::Word {
+            frame: call.activation,
+            inlet: call.node,
+            word,
+        },
+    )
+}
+
+// What a firing or a delivery says is done.
+pub(crate) fn apply(
+    program: &Program<'_>,
+    machine: &mut Machine,
+    effect: Effect,
+) -> Result<(), NoMemory>
+    ensures value { HasEffect program.now machine.old machine.new (λ w. effect_in w effect) result }
     ensures sizes { sizes_of machine.new ≡ sizes_of machine.old }
 {
-    match message {
-        Some(message) => send(machine, message),
-        None => Ok(()),
+    match effect {
+        Effect::Nothing => Ok(()),
+        Effect::Gives { at, word } => give_word(program, machine, at, word),
+        Effect::Enters { activation, block } => enter_block(program, machine, activation, block),
+        Effect::Sends { message } => send(&mut machine.pending, message),
     }
 }

@@ -14,7 +14,7 @@ const LIMITS: Limits = Limits {
 };
 
 fn node(name: Option<Name>, kind: Kind) -> Node
-    ensures { result ≡ record { name = name; depth = 0; block = 0; kind = kind } }
+    ensures value { result ≡ record { name = name; depth = 0; block = 0; kind = kind } }
 {
     Node {
         name,

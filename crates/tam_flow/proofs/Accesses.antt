@@ -4,7 +4,7 @@ use Rattle.std.proofs.Common.{inr, ◌⊎◌, ⊎_elim}
 use Rattle.tam_msgs.specs.declared.message.Message.TheVariants.{Word as Carry, Fetch as Ask_cell, Store as Put_cell}
 use Rattle.tam_msgs.specs.Messages.{answers}
 use Rattle.tam_istr.specs.Cells.{Cell, Reader, Empty, Filled, with_cell, in_array, fetch_of, store_of}
-use Rattle.tam_flow.specs.Worlds.{World, Delivery, Went, Faulted, Fault, Second_store, Outside_cells, changes, sends_only, accessed, delivered}
+use Rattle.tam_world.specs.Worlds.{World, Delivery, Went, Faulted, Fault, Second_store, Outside_cells, changes, sends_only, accessed, delivered}
 use Rattle.tam_flow.specs.Reached.{cells_at, cell_at}
 use Rattle.tam_flow.proofs.CellChanges.{none-some, cell-array}
 use Rattle.tam_flow.proofs.Changes.{set-cases}

@@ -15,7 +15,7 @@ use Rattle.tam_graph.proofs.Depths.{alloc-depth, fetch-depth, store-depth}
 use Rattle.tam_graph.proofs.NamedNodes.{NoCall, alloc-line, fetch-line, store-line}
 use Rattle.tam_split.specs.GraphPartitions.{Partitions, are_valid}
 use Rattle.tam_fire.specs.FiringRules.{Path, Value, Word, Array, Fired, node_of, IsStore, IsAccess}
-use Rattle.tam_flow.specs.Worlds.{activation_at, its_code}
+use Rattle.tam_world.specs.Worlds.{activation_at, its_code}
 use Rattle.tam_flow.specs.Journals.{State}
 use Rattle.tam_flow.specs.Told.{path_of, array_of, HasWord, HaveWords, Tells}
 use Rattle.tam_flow.specs.Reached.{kind_of, depth_of, IsThere, maker_of, cells_at, cell_at, WasSent, Has, HasSome, HaveSome, Ran, IsReached}

@@ -11,7 +11,7 @@ use Rattle.tam_msgs.specs.declared.message.Message.TheVariants.{Word as Carry, F
 use Rattle.tam_msgs.specs.Messages.{outside}
 use Rattle.tam_split.specs.GraphPartitions.{Partitions, are_valid}
 use Rattle.tam_fire.specs.FiringRules.{code_at}
-use Rattle.tam_flow.specs.Worlds.{World, Delivery, Went, Printed, Faulted, delivered, activation_at, begun}
+use Rattle.tam_world.specs.Worlds.{World, Delivery, Went, Printed, Faulted, delivered, activation_at, begun}
 use Rattle.tam_flow.specs.Journals.{State, Event, Run, Deliver, initial, class_fired, or_message, after_delivery, deliver_all, after_event, may_run, may_follow}
 use Rattle.tam_flow.specs.Journals.{is_legal_from, state_from, state_after}
 use Rattle.tam_flow.specs.Told.{path_of}

@@ -12,7 +12,7 @@ use Rattle.tam_msgs.specs.declared.message.Message.TheVariants.{Frame as Begin}
 use Rattle.tam_split.specs.Blocks.{BlockGraph, block_graph, vertex_at}
 use Rattle.tam_split.specs.Partitions.{class_at}
 use Rattle.tam_split.specs.GraphPartitions.{Partitions, parts_of, are_valid, firing_order}
-use Rattle.tam_flow.specs.Worlds.{World, Effect, Delivery, Went, Printed, Faulted, delivered, activation_at, its_code, firing_of, fired}
+use Rattle.tam_world.specs.Worlds.{World, Effect, Delivery, Went, Printed, Faulted, delivered, activation_at, its_code, firing_of, fired}
 use Rattle.tam_flow.specs.Journals.{State, Event, Run, Deliver, initial, fire_each, class_fired, has_run, block_of_act, parts_of_act, or_message}
 use Rattle.tam_flow.specs.Journals.{after_delivery, deliver_all, after_event, may_run, may_follow, is_legal_from, state_from, state_after}
 use Rattle.tam_flow.specs.JournalLaws.{IsJournal}

@@ -10,7 +10,7 @@ use Rattle.tam_graph.specs.Graphs.{Graph}
 use Rattle.tam_split.specs.declared.vertex.Vertex.{Vertex}
 use Rattle.tam_split.specs.Blocks.{vertices_in}
 use Rattle.tam_split.specs.GraphPartitions.{singles}
-use Rattle.tam_flow.specs.Worlds.{World, Effect, Fault, activation_at, its_code, has_word, has_entered}
+use Rattle.tam_world.specs.Worlds.{World, Effect, Fault, activation_at, its_code, has_word, has_entered}
 use Rattle.tam_flow.specs.Journals.{State, Event, Run, may_follow, may_run, has_run, after_event, is_legal_from, state_from}
 use Rattle.tam_flow.specs.Reached.{IsThere}
 use Rattle.tam_flow.proofs.SingleRuns.{InletAt, run-inlet, may_run-inlet}

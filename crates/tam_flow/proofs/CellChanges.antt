@@ -6,7 +6,7 @@ use Rattle.tam_graph.specs.declared.kind.Kind.TheVariants.{Alloc}
 use Rattle.tam_istr.specs.Cells.{Cell, Empty, Arrays, with_array, with_cell}
 use Rattle.tam_graph.specs.Graphs.{Graph}
 use Rattle.tam_fire.specs.FiringRules.{Path, Fired, Word, Holds, node_of}
-use Rattle.tam_flow.specs.Worlds.{World}
+use Rattle.tam_world.specs.Worlds.{World}
 use Rattle.tam_flow.specs.Told.{IsNumber, or_maker}
 use Rattle.tam_flow.specs.Reached.{maker_of, cells_at, cell_at}
 use Rattle.tam_word.proofs.Each.{get-left, get-last, last-or_before}

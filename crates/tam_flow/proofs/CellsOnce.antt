@@ -13,7 +13,7 @@ use Rattle.tam_msgs.specs.declared.message.Message.{Message}
 use Rattle.tam_msgs.specs.declared.message.Message.TheVariants.{Word as Carry, Frame as Begin, Cells as Make, Fetch as Ask_cell, Store as Put_cell}
 use Rattle.tam_msgs.specs.Messages.{outside}
 use Rattle.tam_istr.specs.Cells.{Cell, Reader, Empty, Filled, with_array}
-use Rattle.tam_flow.specs.Worlds.{Delivery, Went, Printed, Faulted, changes, got, delivered}
+use Rattle.tam_world.specs.Worlds.{Delivery, Went, Printed, Faulted, changes, got, delivered}
 use Rattle.tam_flow.specs.Journals.{State, Event, Run, after_delivery, after_event, state_after}
 use Rattle.tam_flow.specs.JournalLaws.{IsJournal}
 use Rattle.tam_flow.specs.Reached.{cell_at, WasSent, HasArrived}

@@ -9,7 +9,7 @@ use Rattle.tam_istr.specs.Cells.{Cell}
 use Rattle.tam_graph.specs.Graphs.{Graph, code_of, callee_of_kind}
 use Rattle.tam_fire.specs.FiringRules.{Path, Begun, Entered, Fired, Holds, body_is_entered, call_begins, code_at, the_code, node_of}
 use Rattle.tam_fire.proofs.Following.{holds-by}
-use Rattle.tam_flow.specs.Worlds.{World, ActivationState, begun, or_activation, activation_at, with_word, with_block, got, entered}
+use Rattle.tam_world.specs.Worlds.{World, ActivationState, begun, or_activation, activation_at, with_word, with_block, got, entered}
 use Rattle.tam_flow.specs.Told.{path_of, IsNumber}
 use Rattle.tam_flow.specs.Reached.{IsThere, cells_at, cell_at}
 use Rattle.tam_word.proofs.Each.{get-left, get-last, length-changed_at, last-or_before}

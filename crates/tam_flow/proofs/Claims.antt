@@ -18,7 +18,7 @@ use Rattle.tam_split.proofs.BlockVertices.{at-vertex, at-within, place-at, outle
 use Rattle.tam_split.proofs.LeastClasses.{valid-at}
 use Rattle.tam_split.proofs.Depends.{Depends, depends-inlet, depends-inner, depends-outlet}
 use Rattle.tam_fire.specs.FiringRules.{Path, Value, Word, Fact, Begun, Entered, Val, Fired, code_at, the_code, node_of, values}
-use Rattle.tam_flow.specs.Worlds.{World, activation_at, its_code, has_word, has_entered}
+use Rattle.tam_world.specs.Worlds.{World, activation_at, its_code, has_word, has_entered}
 use Rattle.tam_flow.specs.Journals.{State, has_run, block_of_act, parts_of_act}
 use Rattle.tam_flow.specs.Told.{array_of, meant_at, HasWord, HaveWords, outlet_place, IsNumber, Tells}
 use Rattle.tam_flow.specs.Reached.{kind_of, depth_of, IsThere, WasSent, Has, HasSome, HaveSome, Ran, IsReached}

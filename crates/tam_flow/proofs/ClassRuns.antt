@@ -11,7 +11,7 @@ use Rattle.tam_split.specs.Blocks.{BlockGraph, block_graph, vertices_of, vertex_
 use Rattle.tam_split.specs.Partitions.{Parts, class_at, or_empty}
 use Rattle.tam_split.specs.GraphPartitions.{Partitions, parts_of, are_valid, waits_for_none, taken_first, firing_order}
 use Rattle.tam_fire.specs.FiringRules.{Entered, Holds}
-use Rattle.tam_flow.specs.Worlds.{World, Effect, activation_at, its_code, fired}
+use Rattle.tam_world.specs.Worlds.{World, Effect, activation_at, its_code, fired}
 use Rattle.tam_flow.specs.Told.{path_of}
 use Rattle.tam_flow.specs.Journals.{fire_each}
 use Rattle.tam_flow.specs.Reached.{IsThere}

@@ -6,7 +6,7 @@ use Rattle.tam_graph.specs.declared.kind.Kind.TheVariants.{Param, Ret, Call, All
 use Rattle.tam_graph.specs.Graphs.{Graph, code_of, kind_at, operands_of, is_split}
 use Rattle.tam_graph.specs.Accepted.{IsAccepted}
 use Rattle.tam_split.specs.Blocks.{BlockGraph, vertex_at}
-use Rattle.tam_flow.specs.Worlds.{World, or_activation, its_code, word_of, words_of, got, fired_with, fired, begun}
+use Rattle.tam_world.specs.Worlds.{World, or_activation, its_code, word_of, words_of, got, fired_with, fired, begun}
 use Rattle.tam_flow.specs.Reached.{IsThere, kind_of}
 use Rattle.tam_flow.proofs.ActivationLists.{word_among}
 use Rattle.tam_flow.proofs.Gifts.{gift, got-one, leaves-firing}

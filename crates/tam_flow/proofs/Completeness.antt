@@ -11,7 +11,7 @@ use Rattle.tam_fire.specs.FiringRules.{outlet_fires, call_begins}
 use Rattle.tam_fire.specs.FiringRules.{call_answers, arg_comes, result_comes, alloc_answers, fetch_answers, cond_enters, switch_comes, out_comes, Given}
 use Rattle.tam_fire.specs.FiringRules.{root_has_begun, param_has, Holds, DoubleWrite, OutsideAccess}
 use Rattle.tam_fire.proofs.Following.{holds-induction}
-use Rattle.tam_flow.specs.Worlds.{activation_at}
+use Rattle.tam_world.specs.Worlds.{activation_at}
 use Rattle.tam_flow.specs.Journals.{State, Event, state_after, IsQuiet}
 use Rattle.tam_flow.specs.Told.{IsNumber}
 use Rattle.tam_flow.specs.JournalLaws.{IsJournal, IsComplete, Complete}

@@ -10,8 +10,8 @@ use Rattle.tam_istr.specs.Cells.{Filled}
 use Rattle.tam_graph.specs.Graphs.{Graph}
 use Rattle.tam_graph.specs.Accepted.{IsAccepted}
 use Rattle.tam_split.specs.GraphPartitions.{Partitions, are_valid}
-use Rattle.tam_flow.specs.Worlds.{Effect, Delivery, Went, Printed, Faulted, Fault, Second_store, Outside_cells, or_activation}
-use Rattle.tam_flow.specs.Worlds.{has_entered, begun, delivered}
+use Rattle.tam_world.specs.Worlds.{Effect, Delivery, Went, Printed, Faulted, Fault, Second_store, Outside_cells, or_activation}
+use Rattle.tam_world.specs.Worlds.{has_entered, begun, delivered}
 use Rattle.tam_flow.specs.Journals.{State, Event, Run, Deliver, initial, or_message, after_delivery}
 use Rattle.tam_flow.specs.Journals.{deliver_all, after_event, may_run, may_arrive, may_follow, is_legal_from, state_from, state_after}
 use Rattle.tam_flow.specs.Told.{path_of}

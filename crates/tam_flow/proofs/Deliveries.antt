@@ -13,7 +13,8 @@ use Rattle.tam_graph.specs.Graphs.{Graph, code_of}
 use Rattle.tam_fire.specs.FiringRules.{Path, Value, Word, Activation, Array, Val, Fired, Holds, IsAccess, node_of, code_at, call_answers, alloc_answers}
 use Rattle.tam_fire.specs.FiringRules.{fetch_answers}
 use Rattle.tam_fire.proofs.Following.{holds-by}
-use Rattle.tam_flow.specs.Worlds.{World, Effect, changes, Delivery, Went, Printed, Faulted, Fault, Second_store, Outside_cells, accessed, delivered, got, begun}
+use Rattle.tam_world.specs.Worlds.{World, Effect, changes, Delivery, Went, Printed, Faulted, Fault, Second_store, Outside_cells, accessed, delivered, got}
+use Rattle.tam_world.specs.Worlds.{begun}
 use Rattle.tam_flow.specs.Told.{IsNumber}
 use Rattle.tam_flow.specs.Reached.{cells_at}
 use Rattle.tam_word.proofs.Each.{all-append, all-more, all-map}

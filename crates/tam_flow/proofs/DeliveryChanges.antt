@@ -12,8 +12,8 @@ use Rattle.tam_graph.specs.Graphs.{Graph, kind_at, operands_of, chosen_branch, n
 use Rattle.tam_split.specs.Blocks.{BlockGraph, vertex_at}
 use Rattle.tam_split.specs.GraphPartitions.{Partitions, firing_order}
 use Rattle.tam_split.specs.Partitions.{class_at}
-use Rattle.tam_flow.specs.Worlds.{World, Effect, Delivery, Went, Printed, Faulted, Second_store, Outside_cells, got, all_got, its_code, words_of, merges_of}
-use Rattle.tam_flow.specs.Worlds.{firing_of, fired_with, fired, accessed, delivered}
+use Rattle.tam_world.specs.Worlds.{World, Effect, Delivery, Went, Printed, Faulted, Second_store, Outside_cells, got, all_got, its_code, words_of, merges_of}
+use Rattle.tam_world.specs.Worlds.{firing_of, fired_with, fired, accessed, delivered}
 use Rattle.tam_flow.specs.Journals.{State, fire_each, class_fired, block_of_act, parts_of_act}
 use Rattle.tam_flow.specs.Reached.{cells_at, cell_at}
 use Rattle.tam_flow.proofs.Growing.{with_begun}

@@ -11,8 +11,8 @@ use Rattle.tam_graph.specs.Graphs.{Graph, kind_at, operands_of, chosen_branch, n
 use Rattle.tam_split.specs.Blocks.{BlockGraph, vertex_at}
 use Rattle.tam_split.specs.GraphPartitions.{Partitions, firing_order}
 use Rattle.tam_split.specs.Partitions.{class_at}
-use Rattle.tam_flow.specs.Worlds.{World, Effect, Delivery, Went, Printed, Faulted, got, all_got, its_code, words_of, merges_of}
-use Rattle.tam_flow.specs.Worlds.{firing_of, fired_with, fired, delivered, begun}
+use Rattle.tam_world.specs.Worlds.{World, Effect, Delivery, Went, Printed, Faulted, got, all_got, its_code, words_of, merges_of}
+use Rattle.tam_world.specs.Worlds.{firing_of, fired_with, fired, delivered, begun}
 use Rattle.tam_flow.specs.Journals.{State, Event, Run, Deliver, fire_each, class_fired, block_of_act, parts_of_act, or_message, after_delivery, deliver_all}
 use Rattle.tam_flow.specs.Journals.{after_event}
 use Rattle.tam_flow.proofs.ActivationCounts.{size-got, size-each, then_one}

@@ -8,7 +8,7 @@ use Rattle.tam_graph.specs.Accepted.{IsAccepted}
 use Rattle.tam_split.specs.GraphPartitions.{Partitions}
 use Rattle.tam_fire.specs.FiringRules.{Path, Word, Array, Fired, Holds, IsStore, IsAccess, node_of, code_at, the_code, site_of, DoubleWrite, OutsideAccess}
 use Rattle.tam_msgs.specs.Messages.{site, site_pair}
-use Rattle.tam_flow.specs.Worlds.{Outside_cells}
+use Rattle.tam_world.specs.Worlds.{Outside_cells}
 use Rattle.tam_flow.specs.Journals.{State, state_after}
 use Rattle.tam_flow.specs.JournalLaws.{FaultsAreGiven}
 use Rattle.tam_flow.proofs.Justified.{IsPutBy}

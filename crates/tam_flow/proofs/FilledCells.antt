@@ -8,7 +8,7 @@ use Rattle.tam_msgs.specs.declared.message.Message.{Message}
 use Rattle.tam_msgs.specs.declared.message.Message.TheVariants.{Word as Carry, Fetch as Ask_cell, Store as Put_cell}
 use Rattle.tam_msgs.specs.Messages.{answers}
 use Rattle.tam_istr.specs.Cells.{Cell, Reader, Empty, Filled}
-use Rattle.tam_flow.specs.Worlds.{Went, Fault, changes, sends_only}
+use Rattle.tam_world.specs.Worlds.{Went, Fault, changes, sends_only}
 use Rattle.tam_flow.specs.Journals.{State, after_delivery}
 use Rattle.tam_flow.specs.Reached.{cell_at, WasSent}
 use Rattle.tam_flow.proofs.CellChanges.{none-some, some-eq}

@@ -12,7 +12,7 @@ use Rattle.tam_split.proofs.BlockVertices.{HasShape, at-shape, place-at}
 use Rattle.tam_split.proofs.LeastClasses.{valid-at, class-only}
 use Rattle.tam_word.proofs.Tests.{eq-number, true-both}
 use Rattle.tam_word.proofs.Members.{In, in-any, in-has, in-get, map-in, filter-in, below-in}
-use Rattle.tam_flow.specs.Worlds.{activation_at, its_code, has_entered, firing_of}
+use Rattle.tam_world.specs.Worlds.{activation_at, its_code, has_entered, firing_of}
 use Rattle.tam_flow.specs.Journals.{State, has_run}
 use Rattle.tam_flow.specs.Told.{outlet_place}
 use Rattle.tam_flow.specs.Reached.{kind_of, Ran, Has, WasSent}

@@ -11,7 +11,7 @@ use Rattle.tam_graph.specs.Accepted.{all_depths, both_enter_depth, enters_depth}
 use Rattle.tam_fire.specs.FiringRules.{Value, Word, Val, Fired, Holds, the_code}
 use Rattle.tam_fire.specs.FiringRules.{cond_enters, switch_comes, out_comes}
 use Rattle.tam_fire.proofs.Following.{holds-by}
-use Rattle.tam_flow.specs.Worlds.{World, changes, entered, all_got, activation_at, its_code, word_of, merges_of}
+use Rattle.tam_world.specs.Worlds.{World, changes, entered, all_got, activation_at, its_code, word_of, merges_of}
 use Rattle.tam_flow.specs.Told.{path_of}
 use Rattle.tam_word.proofs.Tests.{and-left, and-right, number-eq, below-test}
 use Rattle.tam_word.proofs.Each.{all-of_each, all-more, all-flat}

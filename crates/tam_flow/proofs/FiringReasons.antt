@@ -11,7 +11,7 @@ use Rattle.tam_graph.specs.Accepted.{IsAccepted, has_right_depth}
 use Rattle.tam_fire.specs.FiringRules.{Value, Word, Activation, Val, Fired, Entered, Holds, values, node_of, block_of, code_at, the_code}
 use Rattle.tam_fire.specs.FiringRules.{outlet_fires}
 use Rattle.tam_fire.proofs.Following.{holds-by}
-use Rattle.tam_flow.specs.Worlds.{World, changes, sends_only, got, all_got, activation_at, its_code, word_of, words_of}
+use Rattle.tam_world.specs.Worlds.{World, changes, sends_only, got, all_got, activation_at, its_code, word_of, words_of}
 use Rattle.tam_flow.specs.Told.{IsNumber, path_of}
 use Rattle.tam_flow.specs.Reached.{IsThere}
 use Rattle.tam_word.proofs.Each.{all-more}

@@ -15,8 +15,8 @@ use Rattle.tam_graph.specs.Accepted.{gives_depth}
 use Rattle.tam_fire.specs.FiringRules.{Value, Word, Activation, Array, Val, Fired, Holds, node_of, code_at, const_gives}
 use Rattle.tam_fire.specs.FiringRules.{op_gives, seq_gives, arg_comes, result_comes}
 use Rattle.tam_fire.proofs.Following.{holds-by}
-use Rattle.tam_flow.specs.Worlds.{World, changes, sends_only, got, activation_at, its_code, words_of, result_message}
-use Rattle.tam_flow.specs.Worlds.{firing_of, fired_with, fired}
+use Rattle.tam_world.specs.Worlds.{World, changes, sends_only, got, activation_at, its_code, words_of, result_message}
+use Rattle.tam_world.specs.Worlds.{firing_of, fired_with, fired}
 use Rattle.tam_flow.specs.Told.{IsNumber, path_of}
 use Rattle.tam_flow.specs.Reached.{IsThere}
 use Rattle.tam_word.proofs.Tests.{and-left, and-right, number-eq, test-below}

@@ -6,8 +6,8 @@ use Rattle.tam_word.specs.Words.{meaning}
 use Rattle.tam_graph.specs.declared.kind.Kind.{Kind}
 use Rattle.tam_graph.specs.declared.kind.Kind.TheVariants.{Const, Op as Operate, Seq, Call, Arg, Give, Alloc, Fetch, Store, Cond, Switch, Leave}
 use Rattle.tam_graph.specs.Graphs.{Graph, Code, chosen_branch, node_in, owner_of, block_at, is_enter}
-use Rattle.tam_flow.specs.Worlds.{World, ActivationState, or_activation, activation_at, its_code, word_of, has_entered, with_word, with_block, got, all_got}
-use Rattle.tam_flow.specs.Worlds.{entered, merges_of, firing_of}
+use Rattle.tam_world.specs.Worlds.{World, ActivationState, or_activation, activation_at, its_code, word_of, has_entered, with_word, with_block, got, all_got}
+use Rattle.tam_world.specs.Worlds.{entered, merges_of, firing_of}
 use Rattle.tam_flow.specs.Reached.{IsThere}
 use Rattle.tam_word.proofs.Members.{In}
 use Rattle.tam_word.proofs.Each.{length-changed_at}

@@ -8,7 +8,7 @@ use Rattle.tam_graph.specs.Graphs.{is_merge, is_enter}
 use Rattle.tam_split.proofs.Firers.{is_inner}
 use Rattle.tam_word.proofs.Tests.{number-eq}
 use Rattle.tam_word.proofs.Members.{In, in-flat_map, in-filter}
-use Rattle.tam_flow.specs.Worlds.{World}
+use Rattle.tam_world.specs.Worlds.{World}
 use Rattle.tam_flow.proofs.Nodes.{is-merge, is-enter}
 use Rattle.tam_flow.proofs.Moves.{in-first}
 use Rattle.tam_flow.proofs.Gifts.{gift, opens}

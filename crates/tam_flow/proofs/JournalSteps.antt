@@ -7,7 +7,7 @@ use Rattle.tam_graph.specs.Graphs.{Graph}
 use Rattle.tam_graph.specs.Accepted.{IsAccepted}
 use Rattle.tam_split.specs.GraphPartitions.{Partitions, are_valid}
 use Rattle.tam_msgs.specs.declared.message.Message.{Message}
-use Rattle.tam_flow.specs.Worlds.{delivered}
+use Rattle.tam_world.specs.Worlds.{delivered}
 use Rattle.tam_flow.specs.Journals.{State, Event, Run, Deliver, initial, or_message, after_delivery, deliver_all, after_event, may_run, may_arrive, may_follow}
 use Rattle.tam_flow.specs.Journals.{is_legal_from, state_from, state_after}
 use Rattle.tam_flow.specs.JournalLaws.{IsJournal}

@@ -3,7 +3,7 @@ use Rattle.std.proofs.Common.{◌≡◌, ℕ, ◌<◌, List, [], ◌∷◌, leng
 use Rattle.tam_graph.specs.declared.kind.Kind.TheVariants.{Alloc}
 use Rattle.tam_graph.specs.Graphs.{Graph}
 use Rattle.tam_split.specs.GraphPartitions.{Partitions}
-use Rattle.tam_flow.specs.Worlds.{word_of}
+use Rattle.tam_world.specs.Worlds.{word_of}
 use Rattle.tam_flow.specs.Journals.{State, Event, state_after}
 use Rattle.tam_flow.specs.JournalLaws.{IsJournal}
 use Rattle.tam_flow.specs.Reached.{kind_of, maker_of, cells_at, ArraysStand, ArrivalsDid, IsReached}

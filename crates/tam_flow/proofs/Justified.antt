@@ -9,7 +9,7 @@ use Rattle.tam_msgs.specs.Messages.{outside, site}
 use Rattle.tam_istr.specs.Cells.{Cell, Empty, Filled}
 use Rattle.tam_graph.specs.Graphs.{Graph, depth_at}
 use Rattle.tam_fire.specs.FiringRules.{Path, Value, Word, Activation, Array, Begun, Entered, Val, Fired, Holds, code_at, the_code, node_of}
-use Rattle.tam_flow.specs.Worlds.{World, activation_at, word_of, has_entered}
+use Rattle.tam_world.specs.Worlds.{World, activation_at, word_of, has_entered}
 use Rattle.tam_flow.specs.Told.{IsNumber, path_of}
 use Rattle.tam_flow.specs.Reached.{IsThere, maker_of, cells_at, cell_at}
 use Rattle.tam_flow.proofs.Growing.{Grows}

@@ -5,7 +5,7 @@ use Rattle.tam_msgs.specs.declared.message.Message.TheVariants.{Word as Carry}
 use Rattle.tam_msgs.specs.Messages.{outside}
 use Rattle.tam_graph.specs.Graphs.{Graph, code_of, kind_at, block_at, operands_of}
 use Rattle.tam_word.proofs.Members.{In}
-use Rattle.tam_flow.specs.Worlds.{World, ActivationState, or_activation, activation_at, its_code, word_of, has_entered, firing_of}
+use Rattle.tam_world.specs.Worlds.{World, ActivationState, or_activation, activation_at, its_code, word_of, has_entered, firing_of}
 use Rattle.tam_flow.specs.Reached.{IsThere, kind_of}
 use Rattle.tam_flow.proofs.ActivationLists.{word_among}
 use Rattle.tam_flow.proofs.Deliveries.{some-below}

@@ -16,9 +16,9 @@ use Rattle.tam_split.specs.GraphPartitions.{Partitions, parts_of}
 use Rattle.tam_word.proofs.Tests.{eq-number}
 use Rattle.tam_word.proofs.Each.{all-more, all-append, get-left, get-last, last-or_before}
 use Rattle.tam_word.proofs.Members.{In, left-in}
-use Rattle.tam_flow.specs.Worlds.{World, ActivationState, Delivery, Went, Printed, Faulted, begun, or_activation, activation_at, its_code}
-use Rattle.tam_flow.specs.Worlds.{word_of, has_entered, got, accessed}
-use Rattle.tam_flow.specs.Worlds.{delivered}
+use Rattle.tam_world.specs.Worlds.{World, ActivationState, Delivery, Went, Printed, Faulted, begun, or_activation, activation_at, its_code}
+use Rattle.tam_world.specs.Worlds.{word_of, has_entered, got, accessed}
+use Rattle.tam_world.specs.Worlds.{delivered}
 use Rattle.tam_flow.specs.Journals.{State, after_delivery, has_run, block_of_act}
 use Rattle.tam_flow.specs.Reached.{IsThere, kind_of, HasArrived, HasSome}
 use Rattle.tam_flow.proofs.ActivationLists.{was_entered, entered-first, word_among}

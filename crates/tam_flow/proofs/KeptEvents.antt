@@ -13,7 +13,7 @@ use Rattle.tam_split.specs.GraphPartitions.{Partitions, parts_of, are_valid, fir
 use Rattle.tam_word.proofs.Tests.{number-eq, self-eq, true-both, and-left, and-right}
 use Rattle.tam_word.proofs.Members.{In, all-in, in-has, has-in}
 use Rattle.tam_word.proofs.Each.{all-more, each-in, in-each, get-left}
-use Rattle.tam_flow.specs.Worlds.{Effect, activation_at, its_code, has_word}
+use Rattle.tam_world.specs.Worlds.{Effect, activation_at, its_code, has_word}
 use Rattle.tam_flow.specs.Journals.{State, Run, fire_each, class_fired, has_run, block_of_act, parts_of_act, after_event}
 use Rattle.tam_flow.specs.Reached.{IsThere, HasArrived, HasSome}
 use Rattle.tam_flow.proofs.ActivationCounts.{then_one}

@@ -12,7 +12,7 @@ use Rattle.tam_graph.proofs.AcceptedFacts.{node-there}
 use Rattle.tam_split.proofs.Firers.{is_inner}
 use Rattle.tam_word.proofs.Tests.{and-left, below-test}
 use Rattle.tam_word.proofs.Members.{In}
-use Rattle.tam_flow.specs.Worlds.{World, Effect, activation_at, its_code, word_of, has_entered, firing_of, fired}
+use Rattle.tam_world.specs.Worlds.{World, Effect, activation_at, its_code, word_of, has_entered, firing_of, fired}
 use Rattle.tam_flow.specs.Reached.{IsThere, kind_of}
 use Rattle.tam_flow.proofs.Nodes.{line, cond-operand}
 use Rattle.tam_flow.proofs.FiringReasons.{HaveThese}
@@ -72,7 +72,7 @@ module _ (g : Graph) (accepted : IsAccepted g) (w : World) (F : ℕ → ℕ → 
           }
 
   -- so of each cond one branch at most is entered
-  one-branch : (d a b : ℕ) → has_entered w i a ≡ true → slice_get (its_code g w i).owners a ≡ Some (Some d)
+  pub one-branch : (d a b : ℕ) → has_entered w i a ≡ true → slice_get (its_code g w i).owners a ≡ Some (Some d)
       → has_entered w i b ≡ true → slice_get (its_code g w i).owners b ≡ Some (Some d) → a ≡ b
   one-branch d a b h o k q = same (has-chosen d a h o) (has-chosen d b k q)
     where
@@ -146,7 +146,7 @@ module _ (g : Graph) (accepted : IsAccepted g) (w : World) (F : ℕ → ℕ → 
 
   module _ (x : ℕ) (vs : List ℕ) (new : F i x → ⊥) (opened : has_entered w i (block_at (its_code g w i) x) ≡ true) where
     -- what a node gives when it first fires goes to nodes that have no word
-    fresh : (y t : ℕ) → In y (gift (its_code g w i) x (kind_of g w i x) vs).0 → word_of w i y ≡ t ∷ [] → ⊥
+    pub fresh : (y t : ℕ) → In y (gift (its_code g w i) x (kind_of g w i x) vs).0 → word_of w i y ≡ t ∷ [] → ⊥
     fresh y t m h = ⊎_elim by_firing by_message (kept.sources i y t h)
       where
         mine : GivenTo (its_code g w i) x (kind_of g w i x) vs y

@@ -10,7 +10,7 @@ use Rattle.tam_graph.specs.Accepted.{IsAccepted}
 use Rattle.tam_split.specs.GraphPartitions.{Partitions, are_valid}
 use Rattle.tam_word.proofs.Tests.{and-right, not-true}
 use Rattle.tam_word.proofs.Each.{all-append, all-at_place, all-flat, all-map, all-more}
-use Rattle.tam_flow.specs.Worlds.{Delivery, Went, Printed, Faulted, delivered, opening, argument_message, word_of, has_entered}
+use Rattle.tam_world.specs.Worlds.{Delivery, Went, Printed, Faulted, delivered, opening, argument_message, word_of, has_entered}
 use Rattle.tam_flow.specs.Journals.{State, Event, Run, Deliver, initial, class_fired, block_of_act, or_message, after_delivery, deliver_all}
 use Rattle.tam_flow.specs.Journals.{after_event, may_run, may_arrive, may_follow, is_legal_from, state_from, state_after}
 use Rattle.tam_flow.specs.JournalLaws.{IsJournal}

@@ -19,7 +19,7 @@ use Rattle.std.proofs.lemmas.List.{append_assoc}
 use Rattle.tam_word.proofs.Tests.{number-eq, self-eq, true-both}
 use Rattle.tam_word.proofs.Members.{In, in-any, all-in, in-has, map-in, filter-in, below-in, left-in, right-in}
 use Rattle.tam_word.proofs.Each.{all-more, all-append, all-map, in-each}
-use Rattle.tam_flow.specs.Worlds.{World, Effect, activation_at, its_code, word_of, has_word, has_entered, fired}
+use Rattle.tam_world.specs.Worlds.{World, Effect, activation_at, its_code, word_of, has_word, has_entered, fired}
 use Rattle.tam_flow.specs.Journals.{State, has_run, block_of_act, parts_of_act}
 use Rattle.tam_flow.specs.Reached.{kind_of, HasArrived, HasSome}
 use Rattle.tam_flow.proofs.ActivationCounts.{then_one}
@@ -58,7 +58,7 @@ pub record IsKeptState (g : Graph) (all : Partitions) (s : State) : Type 0 where
   pub classes : (i b c : ℕ) → has_run s i b c ≡ true → c < length (parts_of_act g all s i b)
 
 -- an edge between places of different classes puts the one class directly before the other
-directly-before : (es : List (ℕ × ℕ)) (parts : Parts) (d y c : ℕ) → In (d, y) es → class_of parts y ≡ c → (class_of parts d == c) ≡ false
+pub directly-before : (es : List (ℕ × ℕ)) (parts : Parts) (d y c : ℕ) → In (d, y) es → class_of parts y ≡ c → (class_of parts d == c) ≡ false
     → directly_before es parts (class_of parts d) c ≡ true
 directly-before es parts d y c m e differ =
     in-any (λ (p : ℕ × ℕ). (p.0 == class_of parts d) && (p.1 == c)) (class_edges parts es) (class_of parts d, c)
@@ -186,7 +186,7 @@ module _ (g : Graph) (args : List ℕ) (accepted : IsAccepted g) (all : Partitio
           })) value q
 
       -- so each operand of a place that fires has a word
-      operand-has : (vertex_at the_block y).inlet ≡ false → (a : ℕ) → In a (operands_of the_code (kind_at the_code the_node))
+      pub operand-has : (vertex_at the_block y).inlet ≡ false → (a : ℕ) → In a (operands_of the_code (kind_at the_code the_node))
           → (u : ℕ) × (word_of e.world i a ≡ u ∷ [])
       operand-has none a m =
           let taken = operand-taken g accepted (activation_at s.world i).code code-there the_node a (kind_at the_code the_node) node-in_block.0 refl m in
@@ -197,7 +197,7 @@ module _ (g : Graph) (args : List ℕ) (accepted : IsAccepted g) (all : Partitio
           (record { vertex = vertex_at the_block y; stands = place-at the_code b y within; of_node = refl; no_inlet = none }) here m)
 
       -- and the place fires for the first time
-      fires-first : (In y done → ⊥) → (vertex_at the_block y).inlet ≡ false → ((z : ℕ) → In z done → z < length the_block.vertices)
+      pub fires-first : (In y done → ⊥) → (vertex_at the_block y).inlet ≡ false → ((z : ℕ) → In z done → z < length the_block.vertices)
           → FiredWith done i the_node → ⊥
       fires-first fresh none places (inl f) =
           let both = one-class g args accepted all valid (activation_at s.world i).code b c f.block f.class f.place y code-there

@@ -15,8 +15,8 @@ use Rattle.tam_msgs.specs.declared.message.Message.{Message}
 use Rattle.tam_msgs.specs.declared.message.Message.TheVariants.{Word as Carry, Frame as Begin, Cells as Make, Fetch as Ask_cell, Store as Put_cell}
 use Rattle.tam_msgs.specs.Messages.{outside, answers}
 use Rattle.tam_istr.specs.Cells.{Cell, Empty, Filled, with_array}
-use Rattle.tam_flow.specs.Worlds.{World, Delivery, Went, Printed, Faulted, changes, sends_only, its_code, words_of, got, all_got, merges_of}
-use Rattle.tam_flow.specs.Worlds.{firing_of, fired_with, fired, delivered}
+use Rattle.tam_world.specs.Worlds.{World, Delivery, Went, Printed, Faulted, changes, sends_only, its_code, words_of, got, all_got, merges_of}
+use Rattle.tam_world.specs.Worlds.{firing_of, fired_with, fired, delivered}
 use Rattle.tam_flow.specs.Journals.{State, Event, Run, after_delivery, after_event, block_of_act, state_after}
 use Rattle.tam_flow.specs.JournalLaws.{IsJournal}
 use Rattle.tam_flow.specs.Told.{or_maker}

@@ -15,9 +15,9 @@ use Rattle.tam_msgs.specs.declared.message.Message.{Message}
 use Rattle.tam_msgs.specs.declared.message.Message.TheVariants.{Word as Carry, Frame as Begin, Cells as Make, Fetch as Ask_cell, Store as Put_cell}
 use Rattle.tam_msgs.specs.Messages.{outside}
 use Rattle.tam_istr.specs.Cells.{Access, Now, Deferred, Stored, Twice, NotBelow, NoArray, fetched_from, stored_into}
-use Rattle.tam_flow.specs.Worlds.{World, ActivationState, Delivery, Went, Printed, Faulted, begun, or_activation, activation_at, its_code}
-use Rattle.tam_flow.specs.Worlds.{has_word, has_entered, with_word, with_block, got, all_got, entered, merges_of, firing_of, fired_with, fired, words_of}
-use Rattle.tam_flow.specs.Worlds.{accessed, delivered}
+use Rattle.tam_world.specs.Worlds.{World, ActivationState, Delivery, Went, Printed, Faulted, begun, or_activation, activation_at, its_code}
+use Rattle.tam_world.specs.Worlds.{has_word, has_entered, with_word, with_block, got, all_got, entered, merges_of, firing_of, fired_with, fired, words_of}
+use Rattle.tam_world.specs.Worlds.{accessed, delivered}
 use Rattle.tam_flow.specs.Reached.{IsThere}
 use Rattle.tam_flow.proofs.ActivationLists.{was_entered, entered-stays, has_among, has-stays, has-cases}
 use Rattle.tam_word.proofs.Each.{length-changed_at}

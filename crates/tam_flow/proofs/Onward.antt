@@ -6,7 +6,7 @@ use Rattle.tam_graph.specs.Graphs.{Graph, code_of, callee_of, operands_of, node_
 use Rattle.tam_msgs.specs.declared.message.Message.{Message}
 use Rattle.tam_msgs.specs.declared.message.Message.TheVariants.{Word as Carry, Fetch as Ask_cell, Store as Put_cell}
 use Rattle.tam_msgs.specs.Messages.{outside, site}
-use Rattle.tam_flow.specs.Worlds.{World, activation_at, its_code, word_of, words_of, has_entered, result_message, firing_of, fired_with, fired}
+use Rattle.tam_world.specs.Worlds.{World, activation_at, its_code, word_of, words_of, has_entered, result_message, firing_of, fired_with, fired}
 use Rattle.tam_flow.specs.Reached.{IsThere, kind_of}
 use Rattle.tam_word.proofs.Members.{In}
 use Rattle.tam_flow.proofs.FiringReasons.{HaveThese}

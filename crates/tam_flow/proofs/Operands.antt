@@ -33,8 +33,13 @@ call-value c f h = record {
 }
 
 module _ (g : Graph) (accepted : IsAccepted g) (n : ℕ) (there : n < length g.codes) where
+  -- a node stands in a block in which it may
+  pub right-block : (x : ℕ) → x < length (code_of g n).nodes → is_wrong_block (code_of g n) x ≡ false
+  right-block x l = where_so-nil (is_wrong_block (code_of g n) x) Wrong_block
+      (append-nil (where_so (is_wrong_block (code_of g n) x) Wrong_block) _ (no-faults g accepted n there x l)).0
+
   -- what a line names stands in its block
-  named-block : (x y : ℕ) (k : Kind) → x < length (code_of g n).nodes → kind_at (code_of g n) x ≡ k → In y (named_by k)
+  pub named-block : (x y : ℕ) (k : Kind) → x < length (code_of g n).nodes → kind_at (code_of g n) x ≡ k → In y (named_by k)
       → block_at (code_of g n) y ≡ block_at (code_of g n) x
   named-block x y k l e m = go (block_at (code_of g n) y == block_at (code_of g n) x) refl
     where

@@ -15,7 +15,7 @@ use Rattle.tam_graph.proofs.Branches.{block-there}
 use Rattle.tam_split.specs.GraphPartitions.{Partitions}
 use Rattle.tam_word.proofs.Tests.{and-left, below-test, eq-number}
 use Rattle.tam_word.proofs.Members.{In, flat_map-in}
-use Rattle.tam_flow.specs.Worlds.{activation_at, its_code, result_message, firing_of}
+use Rattle.tam_world.specs.Worlds.{activation_at, its_code, result_message, firing_of}
 use Rattle.tam_flow.specs.Journals.{State, Event, state_after}
 use Rattle.tam_flow.specs.JournalLaws.{IsJournal}
 use Rattle.tam_flow.specs.Reached.{IsThere, kind_of, Ran, Has, WasSent, ActivationsStand, OutletsDid}

@@ -12,7 +12,7 @@ use Rattle.tam_split.specs.Partitions.{class_of, class_at, directly_before, lead
 use Rattle.tam_split.specs.GraphPartitions.{Partitions}
 use Rattle.tam_split.proofs.BlockPaths.{edge-of}
 use Rattle.tam_split.proofs.LeastClasses.{IsValidAt, class-below, class-only, first-unrun, leading-below}
-use Rattle.tam_flow.specs.Worlds.{has_word, has_entered, its_code}
+use Rattle.tam_world.specs.Worlds.{has_word, has_entered, its_code}
 use Rattle.tam_flow.specs.Journals.{State, Event, Run, Deliver, may_follow, may_run, may_arrive, has_run, inlets_have_words, those_before_ran, block_of_act}
 use Rattle.tam_flow.specs.Journals.{parts_of_act}
 use Rattle.tam_flow.specs.Reached.{IsThere, WasSent, HasArrived}

@@ -8,7 +8,7 @@ use Rattle.tam_graph.specs.declared.kind.Kind.TheVariants.{Call}
 use Rattle.tam_graph.specs.Graphs.{Graph, code_of, kind_at, callee_of_kind}
 use Rattle.tam_split.specs.GraphPartitions.{Partitions}
 use Rattle.tam_fire.specs.FiringRules.{Path, code_at, node_of}
-use Rattle.tam_flow.specs.Worlds.{World, ActivationState, or_activation, activation_at}
+use Rattle.tam_world.specs.Worlds.{World, ActivationState, or_activation, activation_at}
 use Rattle.tam_flow.specs.Journals.{State}
 use Rattle.tam_flow.specs.Told.{path_of, paths_behind, or_path}
 use Rattle.tam_flow.specs.Reached.{IsThere, kind_of, ActivationsStand}

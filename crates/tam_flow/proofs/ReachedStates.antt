@@ -6,7 +6,7 @@ use Rattle.tam_msgs.specs.Messages.{outside}
 use Rattle.tam_istr.specs.Cells.{Reader, Empty, Filled}
 use Rattle.tam_graph.specs.Graphs.{Graph}
 use Rattle.tam_split.specs.GraphPartitions.{Partitions}
-use Rattle.tam_flow.specs.Worlds.{word_of}
+use Rattle.tam_world.specs.Worlds.{word_of}
 use Rattle.tam_flow.specs.Journals.{State, Event, state_after}
 use Rattle.tam_flow.specs.JournalLaws.{IsJournal}
 use Rattle.tam_flow.specs.Reached.{cell_at, HasArrived, ArraysStand, ArrivalsDid, OnceEach, IsReached}

@@ -16,9 +16,9 @@ use Rattle.tam_split.specs.Blocks.{BlockGraph, vertex_at}
 use Rattle.tam_fire.specs.FiringRules.{Path, Activation, Entered, Val, Holds, code_at, node_of}
 use Rattle.tam_word.proofs.Tests.{and-left}
 use Rattle.tam_word.proofs.Each.{all-append, all-more, all-map}
-use Rattle.tam_flow.specs.Worlds.{World, Effect, Delivery, Went, Printed, Faulted, activation_at, its_code, words_of, result_message, firing_of, fired_with}
-use Rattle.tam_flow.specs.Worlds.{fired}
-use Rattle.tam_flow.specs.Worlds.{accessed, delivered}
+use Rattle.tam_world.specs.Worlds.{World, Effect, Delivery, Went, Printed, Faulted, activation_at, its_code, words_of, result_message, firing_of, fired_with}
+use Rattle.tam_world.specs.Worlds.{fired}
+use Rattle.tam_world.specs.Worlds.{accessed, delivered}
 use Rattle.tam_flow.specs.Told.{IsNumber, path_of}
 use Rattle.tam_flow.specs.Journals.{fire_each}
 use Rattle.tam_flow.specs.Reached.{IsThere, kind_of}

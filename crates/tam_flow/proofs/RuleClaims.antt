@@ -16,7 +16,7 @@ use Rattle.tam_graph.proofs.NamedNodes.{op-line, seq-line, arg-line, give-line, 
 use Rattle.tam_split.specs.GraphPartitions.{Partitions, are_valid}
 use Rattle.tam_split.proofs.Depends.{Depends}
 use Rattle.tam_fire.specs.FiringRules.{Path, Value, Word, Activation, Array, Begun, Entered, Fired, the_code, node_of, block_of, values}
-use Rattle.tam_flow.specs.Worlds.{World, activation_at, its_code, has_entered}
+use Rattle.tam_world.specs.Worlds.{World, activation_at, its_code, has_entered}
 use Rattle.tam_flow.specs.Journals.{State}
 use Rattle.tam_flow.specs.Told.{path_of, meant_at, HasWord, HaveWords, IsNumber, Tells}
 use Rattle.tam_flow.specs.Reached.{kind_of, depth_of, IsThere, WasSent, Has, HasSome, HaveSome, Ran, WordSource, IsReached}

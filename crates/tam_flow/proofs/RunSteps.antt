@@ -11,7 +11,7 @@ use Rattle.tam_split.specs.Blocks.{BlockGraph, block_graph, vertex_at}
 use Rattle.tam_split.specs.Partitions.{class_at}
 use Rattle.tam_split.specs.GraphPartitions.{Partitions, parts_of, are_valid, firing_order}
 use Rattle.tam_fire.specs.FiringRules.{Entered, Holds}
-use Rattle.tam_flow.specs.Worlds.{World, Effect, activation_at, its_code, fired}
+use Rattle.tam_world.specs.Worlds.{World, Effect, activation_at, its_code, fired}
 use Rattle.tam_flow.specs.Journals.{State, Run, fire_each, has_run, class_fired, block_of_act, parts_of_act, after_event}
 use Rattle.tam_flow.specs.Told.{path_of}
 use Rattle.tam_flow.specs.Reached.{IsThere}

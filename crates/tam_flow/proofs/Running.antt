@@ -11,7 +11,7 @@ use Rattle.tam_split.specs.declared.vertex.Vertex.{Vertex}
 use Rattle.tam_split.specs.Blocks.{block_graph, vertices_of, vertex_at, or_vertex, places}
 use Rattle.tam_split.specs.Partitions.{Parts, class_of, class_at}
 use Rattle.tam_split.specs.GraphPartitions.{Partitions, parts_of, are_valid}
-use Rattle.tam_flow.specs.Worlds.{activation_at, its_code}
+use Rattle.tam_world.specs.Worlds.{activation_at, its_code}
 use Rattle.tam_flow.specs.Journals.{State, Event, has_run, state_after, block_of_act, parts_of_act}
 use Rattle.tam_flow.specs.Told.{outlet_place}
 use Rattle.tam_flow.specs.JournalLaws.{IsJournal}

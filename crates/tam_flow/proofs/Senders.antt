@@ -11,7 +11,7 @@ use Rattle.tam_graph.specs.Graphs.{Graph, code_of, kind_at, block_at, operands_o
 use Rattle.tam_graph.specs.Accepted.{IsAccepted}
 use Rattle.tam_split.specs.Blocks.{BlockGraph, vertex_at}
 use Rattle.tam_fire.specs.FiringRules.{Entered, Holds}
-use Rattle.tam_flow.specs.Worlds.{World, Effect, activation_at, its_code, words_of, result_message, firing_of, fired_with, fired}
+use Rattle.tam_world.specs.Worlds.{World, Effect, activation_at, its_code, words_of, result_message, firing_of, fired_with, fired}
 use Rattle.tam_flow.specs.Told.{path_of}
 use Rattle.tam_flow.specs.Journals.{fire_each}
 use Rattle.tam_flow.specs.Reached.{IsThere}

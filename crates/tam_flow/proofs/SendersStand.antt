@@ -10,7 +10,7 @@ use Rattle.tam_graph.specs.Graphs.{Graph, operands_of, is_outlet}
 use Rattle.tam_split.specs.GraphPartitions.{Partitions}
 use Rattle.tam_word.proofs.Members.{In, in-get}
 use Rattle.tam_word.proofs.Each.{all-at_place}
-use Rattle.tam_flow.specs.Worlds.{activation_at, its_code, firing_of}
+use Rattle.tam_world.specs.Worlds.{activation_at, its_code, firing_of}
 use Rattle.tam_flow.specs.Journals.{State, Event, state_after}
 use Rattle.tam_flow.specs.JournalLaws.{IsJournal}
 use Rattle.tam_flow.specs.Reached.{IsThere, kind_of, Ran, Has}

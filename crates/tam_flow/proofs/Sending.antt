@@ -9,7 +9,7 @@ use Rattle.tam_graph.specs.Accepted.{IsAccepted}
 use Rattle.tam_msgs.specs.declared.message.Message.{Message}
 use Rattle.tam_msgs.specs.declared.message.Message.TheVariants.{Word as Carry}
 use Rattle.tam_split.specs.GraphPartitions.{Partitions}
-use Rattle.tam_flow.specs.Worlds.{Delivery, Went, Printed, Faulted, delivered, argument_message}
+use Rattle.tam_world.specs.Worlds.{Delivery, Went, Printed, Faulted, delivered, argument_message}
 use Rattle.tam_flow.specs.Journals.{State, Event, Run, Deliver, initial, class_fired, or_message, after_delivery, deliver_all, after_event, state_from}
 use Rattle.tam_flow.specs.Journals.{state_after}
 use Rattle.tam_flow.specs.JournalLaws.{IsJournal}

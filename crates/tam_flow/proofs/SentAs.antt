@@ -7,7 +7,7 @@ use Rattle.tam_msgs.specs.Messages.{outside, site}
 use Rattle.tam_graph.specs.declared.kind.Kind.{Kind}
 use Rattle.tam_graph.specs.declared.kind.Kind.TheVariants.{Const, Op as Operate, Seq, Call, Arg, Give, Alloc, Fetch, Store, Cond, Switch, Leave}
 use Rattle.tam_graph.specs.Graphs.{Graph, code_of, callee_of, node_where, is_param, is_ret}
-use Rattle.tam_flow.specs.Worlds.{World, activation_at, its_code, result_message, firing_of}
+use Rattle.tam_world.specs.Worlds.{World, activation_at, its_code, result_message, firing_of}
 use Rattle.tam_word.proofs.Members.{In}
 use Rattle.tam_word.proofs.Each.{each-in}
 use Rattle.tam_flow.proofs.Senders.{asks, words-only}

@@ -13,8 +13,8 @@ use Rattle.tam_split.specs.Blocks.{block_graph, vertex_at}
 use Rattle.tam_split.specs.Partitions.{class_at}
 use Rattle.tam_split.specs.GraphPartitions.{Partitions, parts_of, are_valid, firing_order}
 use Rattle.tam_fire.specs.FiringRules.{Path}
-use Rattle.tam_flow.specs.Worlds.{World, Second_store, activation_at, its_code}
-use Rattle.tam_flow.specs.Worlds.{has_entered, opening, argument_message}
+use Rattle.tam_world.specs.Worlds.{World, Second_store, activation_at, its_code}
+use Rattle.tam_world.specs.Worlds.{has_entered, opening, argument_message}
 use Rattle.tam_flow.specs.Journals.{State, Run, initial, has_run, class_fired, block_of_act, parts_of_act}
 use Rattle.tam_flow.specs.Journals.{after_event}
 use Rattle.tam_flow.specs.Told.{path_of}

@@ -15,7 +15,7 @@ use Rattle.tam_split.proofs.BlockEdges.{in-fed}
 use Rattle.tam_split.proofs.Partitioning.{length-single}
 use Rattle.tam_split.proofs.Singles.{class_at-single, firing-single, before-edge, edge-before, parts-single}
 use Rattle.tam_split.proofs.Firers.{Firer, Giver, edge-operand, no-edge}
-use Rattle.tam_flow.specs.Worlds.{World, Effect, activation_at, its_code, has_word, has_entered, fired}
+use Rattle.tam_world.specs.Worlds.{World, Effect, activation_at, its_code, has_word, has_entered, fired}
 use Rattle.tam_flow.specs.Journals.{State, may_run, has_run, inlets_have_words, those_before_ran, class_fired, fire_each}
 use Rattle.tam_flow.specs.Journals.{block_of_act, parts_of_act}
 use Rattle.tam_flow.specs.Reached.{IsThere}

@@ -15,7 +15,7 @@ use Rattle.tam_split.specs.Partitions.{class_at}
 use Rattle.tam_split.specs.GraphPartitions.{Partitions, are_valid, firing_order}
 use Rattle.tam_fire.specs.FiringRules.{Word, Begun, Entered, Holds, code_at, the_code, body_is_entered, root_has_begun, param_has}
 use Rattle.tam_fire.proofs.Following.{holds-by}
-use Rattle.tam_flow.specs.Worlds.{Delivery, Went, Printed, Faulted, Fault, activation_at, its_code, has_entered, word_of, delivered, opening, argument_message}
+use Rattle.tam_world.specs.Worlds.{Delivery, Went, Printed, Faulted, Fault, activation_at, its_code, has_entered, word_of, delivered, opening, argument_message}
 use Rattle.tam_flow.specs.Journals.{State, Event, Run, Deliver, initial, has_run, class_fired, block_of_act, parts_of_act, inlets_have_words, those_before_ran}
 use Rattle.tam_flow.specs.Journals.{or_message, after_delivery, deliver_all, after_event, may_run, may_arrive, may_follow, is_legal_from, state_from}
 use Rattle.tam_flow.specs.Journals.{state_after}

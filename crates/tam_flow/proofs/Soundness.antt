@@ -10,7 +10,7 @@ use Rattle.tam_split.specs.Partitions.{class_of}
 use Rattle.tam_fire.specs.FiringRules.{Value, Word, Activation, Array, Fact, Begun, Entered, Val, Fired, Holds, values, node_of, block_of, code_at, the_code}
 use Rattle.tam_fire.specs.FiringRules.{outlet_fires}
 use Rattle.tam_fire.proofs.Following.{holds-by}
-use Rattle.tam_flow.specs.Worlds.{World, activation_at, its_code}
+use Rattle.tam_world.specs.Worlds.{World, activation_at, its_code}
 use Rattle.tam_flow.specs.Journals.{State, has_run, state_after, block_of_act, parts_of_act}
 use Rattle.tam_flow.specs.Told.{path_of, array_of, meant_at, HasWord, HaveWords, outlet_place, IsNumber, Tells}
 use Rattle.tam_flow.specs.JournalLaws.{Sound}

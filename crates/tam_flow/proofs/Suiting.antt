@@ -9,7 +9,7 @@ use Rattle.tam_msgs.specs.declared.message.Message.TheVariants.{Word as Carry, C
 use Rattle.tam_msgs.specs.Messages.{outside}
 use Rattle.tam_split.specs.GraphPartitions.{Partitions, are_valid}
 use Rattle.tam_fire.specs.FiringRules.{Value, node_of}
-use Rattle.tam_flow.specs.Worlds.{ActivationState, or_activation, activation_at, its_code}
+use Rattle.tam_world.specs.Worlds.{ActivationState, or_activation, activation_at, its_code}
 use Rattle.tam_flow.specs.Journals.{State}
 use Rattle.tam_flow.specs.Told.{path_of}
 use Rattle.tam_flow.specs.Reached.{IsThere, kind_of, depth_of, maker_of, IsTyped, Suits, Has}

@@ -5,7 +5,7 @@ use Rattle.tam_msgs.specs.Messages.{outside}
 use Rattle.tam_graph.specs.declared.kind.Kind.{Kind}
 use Rattle.tam_graph.specs.declared.kind.Kind.TheVariants.{Const, Op as Operate, Seq, Call, Arg, Give, Alloc, Fetch, Store, Cond, Switch, Leave}
 use Rattle.tam_graph.specs.Graphs.{Graph, code_of, callee_of, kind_at, operands_of, node_where, is_param, is_ret}
-use Rattle.tam_flow.specs.Worlds.{World, activation_at, its_code, words_of, result_message, firing_of, fired_with, fired}
+use Rattle.tam_world.specs.Worlds.{World, activation_at, its_code, words_of, result_message, firing_of, fired_with, fired}
 use Rattle.tam_flow.proofs.Pairs.{Pairs}
 use Rattle.tam_flow.proofs.Senders.{TagApart, tagged_with, words-only, words-apart}
 

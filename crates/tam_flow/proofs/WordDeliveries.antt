@@ -12,7 +12,7 @@ use Rattle.tam_msgs.specs.declared.message.Message.{Message}
 use Rattle.tam_msgs.specs.declared.message.Message.TheVariants.{Word as Carry, Fetch as Ask_cell}
 use Rattle.tam_msgs.specs.Messages.{outside}
 use Rattle.tam_istr.specs.Cells.{Reader, Empty, Filled}
-use Rattle.tam_flow.specs.Worlds.{World, Effect, Went, sends_only, changes, got, word_of}
+use Rattle.tam_world.specs.Worlds.{World, Effect, Went, sends_only, changes, got, word_of}
 use Rattle.tam_flow.specs.Journals.{State, after_delivery}
 use Rattle.tam_flow.specs.Reached.{IsThere, kind_of, HasArrived, cell_at}
 use Rattle.tam_flow.proofs.Arriving.{arrived-cases}

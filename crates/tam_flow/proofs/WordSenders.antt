@@ -19,7 +19,7 @@ use Rattle.tam_fire.specs.FiringRules.{code_at}
 use Rattle.tam_msgs.specs.declared.message.Message.{Message}
 use Rattle.tam_msgs.specs.declared.message.Message.TheVariants.{Word as Carry, Frame as Begin, Cells as Make, Fetch as Ask_cell, Store as Put_cell}
 use Rattle.tam_msgs.specs.Messages.{outside, site}
-use Rattle.tam_flow.specs.Worlds.{World, Effect, activation_at, its_code, words_of, result_message, firing_of, fired_with, fired}
+use Rattle.tam_world.specs.Worlds.{World, Effect, activation_at, its_code, words_of, result_message, firing_of, fired_with, fired}
 use Rattle.tam_flow.specs.Told.{IsNumber, path_of}
 use Rattle.tam_flow.specs.Reached.{IsThere, kind_of}
 use Rattle.tam_flow.proofs.Growing.{Grows}

@@ -17,7 +17,7 @@ use Rattle.tam_msgs.specs.declared.message.Message.{Message}
 use Rattle.tam_msgs.specs.declared.message.Message.TheVariants.{Word as Carry, Frame as Begin, Cells as Make, Fetch as Ask_cell, Store as Put_cell}
 use Rattle.tam_msgs.specs.Messages.{outside}
 use Rattle.tam_istr.specs.Cells.{Empty}
-use Rattle.tam_flow.specs.Worlds.{World, Effect, its_code, word_of, opening, argument_message}
+use Rattle.tam_world.specs.Worlds.{World, Effect, its_code, word_of, opening, argument_message}
 use Rattle.tam_flow.specs.Journals.{State, Run, initial, has_run, class_fired, block_of_act, after_event}
 use Rattle.tam_flow.specs.Told.{IsNumber, path_of}
 use Rattle.tam_flow.specs.Reached.{IsThere, kind_of, Has, HasArrived, cell_at}

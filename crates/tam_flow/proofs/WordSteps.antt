@@ -6,7 +6,7 @@ use Rattle.tam_graph.specs.Graphs.{Graph}
 use Rattle.tam_graph.specs.Accepted.{IsAccepted}
 use Rattle.tam_split.specs.GraphPartitions.{Partitions, are_valid}
 use Rattle.tam_msgs.specs.declared.message.Message.{Message}
-use Rattle.tam_flow.specs.Worlds.{Delivery, Went, Printed, Faulted, delivered}
+use Rattle.tam_world.specs.Worlds.{Delivery, Went, Printed, Faulted, delivered}
 use Rattle.tam_flow.specs.Journals.{State, Event, Run, initial, class_fired, after_delivery, after_event, state_after}
 use Rattle.tam_flow.specs.JournalLaws.{IsJournal}
 use Rattle.tam_flow.proofs.Arriving.{arrived-cases}

@@ -12,7 +12,7 @@ use Rattle.tam_msgs.specs.declared.message.Message.{Message}
 use Rattle.tam_msgs.specs.declared.message.Message.TheVariants.{Word as Carry, Frame as Begin, Cells as Make, Fetch as Ask_cell, Store as Put_cell}
 use Rattle.tam_msgs.specs.Messages.{outside, answers}
 use Rattle.tam_istr.specs.Cells.{Cell, Reader, Empty, Filled, with_array}
-use Rattle.tam_flow.specs.Worlds.{World, Effect, Went, Fault, sends_only, delivered, word_of}
+use Rattle.tam_world.specs.Worlds.{World, Effect, Went, Fault, sends_only, delivered, word_of}
 use Rattle.tam_flow.specs.Journals.{State, Event, after_delivery, state_after}
 use Rattle.tam_flow.specs.JournalLaws.{IsJournal}
 use Rattle.tam_flow.specs.Reached.{IsThere, kind_of, Has, HasArrived, cell_at}

@@ -6,7 +6,7 @@ use Rattle.tam_graph.specs.declared.kind.Kind.TheVariants.{Param, Const, Op as O
 use Rattle.tam_graph.specs.Graphs.{Graph, operands_of, is_outlet}
 use Rattle.tam_split.specs.GraphPartitions.{Partitions}
 use Rattle.tam_split.proofs.Firers.{is_inner}
-use Rattle.tam_flow.specs.Worlds.{its_code}
+use Rattle.tam_world.specs.Worlds.{its_code}
 use Rattle.tam_flow.specs.Journals.{State, Event, state_after}
 use Rattle.tam_flow.specs.JournalLaws.{IsJournal}
 use Rattle.tam_flow.specs.Reached.{kind_of, Ran, Has, HaveSome, HasArrived, WordSource, WordsStand}

@@ -8,8 +8,8 @@ use Rattle.tam_graph.specs.Graphs.{Graph}
 use Rattle.tam_split.specs.Blocks.{BlockGraph, block_graph, vertex_at}
 use Rattle.tam_split.specs.Partitions.{Parts, class_at, directly_before}
 use Rattle.tam_split.specs.GraphPartitions.{Partitions, parts_of, firing_order}
-use Rattle.tam_flow.specs.Worlds.{World, Effect, Delivery, Went, Printed, Faulted, Fault, activation_at, its_code, has_word, has_entered, fired, delivered}
-use Rattle.tam_flow.specs.Worlds.{opening, argument_message}
+use Rattle.tam_world.specs.Worlds.{World, Effect, Delivery, Went, Printed, Faulted, Fault, activation_at, its_code, has_word, has_entered, fired, delivered}
+use Rattle.tam_world.specs.Worlds.{opening, argument_message}
 
 -- a class of a block of an activation runs, or a message is delivered (by its number in the order of sending)
 pub data Event : Type 0 where

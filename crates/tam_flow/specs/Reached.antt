@@ -12,7 +12,7 @@ use Rattle.tam_istr.specs.Cells.{Cell, Reader, Empty, Filled}
 use Rattle.tam_graph.specs.Graphs.{Graph, code_of, kind_at, block_at, depth_at, operands_of, chosen_branch, test_of}
 use Rattle.tam_split.specs.GraphPartitions.{Partitions}
 use Rattle.tam_fire.specs.FiringRules.{code_at}
-use Rattle.tam_flow.specs.Worlds.{World, activation_at, its_code, word_of, has_entered}
+use Rattle.tam_world.specs.Worlds.{World, activation_at, its_code, word_of, has_entered}
 use Rattle.tam_flow.specs.Journals.{State, has_run, parts_of_act}
 use Rattle.tam_flow.specs.Told.{path_of, or_maker, outlet_ran}
 

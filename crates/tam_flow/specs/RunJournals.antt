@@ -7,7 +7,7 @@ use Rattle.tam_istr.specs.Cells.{cells_used}
 use Rattle.tam_split.specs.GraphPartitions.{Partitions}
 use Rattle.tam_fire.specs.FiringRules.{Instance, Instances}
 use Rattle.tam_msgs.specs.Runs.{End, Quiet, Double_write, Out_of_range, Frames_full, Cells_full, Budget_spent}
-use Rattle.tam_flow.specs.Worlds.{Second_store, Outside_cells}
+use Rattle.tam_world.specs.Worlds.{Second_store, Outside_cells}
 use Rattle.tam_flow.specs.Journals.{Event, State, is_legal, state_after, on_their_way, IsQuiet}
 use Rattle.tam_flow.specs.Told.{Tells}
 

@@ -10,7 +10,7 @@ use Rattle.tam_split.specs.Partitions.{class_of}
 use Rattle.tam_split.specs.GraphPartitions.{Partitions}
 use Rattle.tam_fire.specs.FiringRules.{Path, Value, Word, Activation, Array, Fact, Begun, Entered, Val, Fired}
 use Rattle.tam_msgs.specs.Messages.{outside}
-use Rattle.tam_flow.specs.Worlds.{World, ActivationState, its_code, word_of, has_entered}
+use Rattle.tam_world.specs.Worlds.{World, ActivationState, its_code, word_of, has_entered}
 use Rattle.tam_flow.specs.Journals.{State, has_run, block_of_act, parts_of_act}
 
 -- ---- numbers at run time stand for paths and for allocs

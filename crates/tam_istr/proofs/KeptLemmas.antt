@@ -1,5 +1,5 @@
 -- What the arrays that the code keeps are to contracts: where an array and one of its cells were read.
-use Rattle.std.proofs.Common.{◌≡◌, ◌∙◌, sym, ap, refl, ℕ, ◌<◌, ◌≤◌, List, length, Option, Some, slice_set, get_or}
+use Rattle.std.proofs.Common.{◌≡◌, ◌∙◌, sym, subst, ap, refl, ℕ, ◌<◌, ◌≤◌, List, length, Option, Some, slice_set, get_or}
 use Rattle.std.specs.Prelude.{slice_get}
 use Rattle.std.specs.declared.vec.Vec.{Vec}
 use Rattle.std.specs.declared.alloc.Global.{Global}
@@ -8,8 +8,8 @@ use Rattle.std.proofs.lemmas.Option.{slice_get-map, slice_get-get_or, slice_get_
 use Rattle.std.proofs.lemmas.List.{map-set, length-map, length-set}
 use Rattle.tam_istr.specs.declared.cell.Cell.{Cell as KeptCell}
 use Rattle.tam_istr.specs.Cells.{Cell, Access, NotBelow, in_array, with_cell, cells_used}
-use Rattle.tam_istr.specs.CellAnswers.{cell_of, cells_of, arrays_of}
-use Rattle.tam_istr.proofs.AccessLemmas.{in_array-there, in_array-beyond, with_cell-there, with_cell-same, cells_used-set}
+use Rattle.tam_istr.specs.CellAnswers.{cell_of, cells_of, arrays_of, AreShort}
+use Rattle.tam_istr.proofs.AccessLemmas.{in_array-there, in_array-beyond, with_cell-there, with_cell-same, cells_used-set, short-set}
 
 module _ (kept : List (Vec KeptCell Global)) (a i : ℕ) (array : Vec KeptCell Global) (array_inside : a < length kept) where
   -- the array as contracts see it
@@ -31,6 +31,13 @@ module _ (kept : List (Vec KeptCell Global)) (a i : ℕ) (array : Vec KeptCell G
       ∙ cells_used-set (arrays_of kept) a (cells_of (get_or kept a array).items) (cells_of (slice_set (get_or kept a array).items i after)) kept_array
       (length-map (slice_set (get_or kept a array).items i after) cell_of ∙ length-set (get_or kept a array).items i after
       ∙ sym (length-map (get_or kept a array).items cell_of))
+
+  -- and each length a word
+  pub kept_short : (after : KeptCell) → AreShort (arrays_of kept) → AreShort (arrays_of (slice_set kept a (with_item (get_or kept a array) i after)))
+  kept_short after short = subst AreShort (sym (map-set (λ (v : Vec KeptCell Global). cells_of v.items) kept a (with_item (get_or kept a array) i after)))
+      (short-set (arrays_of kept) a (cells_of (get_or kept a array).items) (cells_of (slice_set (get_or kept a array).items i after)) kept_array
+      (length-map (slice_set (get_or kept a array).items i after) cell_of ∙ length-set (get_or kept a array).items i after
+      ∙ sym (length-map (get_or kept a array).items cell_of)) short)
 
   module _ (cell : KeptCell) (index_inside : i < length (get_or kept a array).items) (cell_is : cell ≡ get_or (get_or kept a array).items i cell) where
     -- the cell as contracts see it

@@ -1,5 +1,5 @@
 -- What contracts see of the arrays that the code keeps, and what its answers say.
-use Rattle.std.specs.Prelude.{ℕ, ◌≡◌, ◌+◌, ◌<◌, ◌≤◌, ◌^◌, List, map, length, slice_get, Some, Result, Ok, Err}
+use Rattle.std.specs.Prelude.{ℕ, ◌≡◌, ◌*◌, ◌<◌, ◌≤◌, ◌^◌, List, map, length, slice_get, Some, Result, Ok, Err}
 use Rattle.std.specs.declared.vec.Vec.{Vec}
 use Rattle.std.specs.declared.alloc.Global.{Global}
 use Rattle.tam_istr.specs.declared.reader.Reader.{Reader}
@@ -7,14 +7,12 @@ use Rattle.tam_istr.specs.declared.cell.Cell.{Cell as KeptCell}
 use Rattle.tam_istr.specs.declared.cell.Cell.TheVariants.{Empty as Kept_empty, Filled as Kept_filled}
 use Rattle.tam_istr.specs.declared.cells.Fetched.{Fetched}
 use Rattle.tam_istr.specs.declared.cells.Fetched.TheVariants.{Now as Gave, Deferred as Waits}
-use Rattle.tam_istr.specs.declared.errors.AllocError.{AllocError}
-use Rattle.tam_istr.specs.declared.errors.AllocError.TheVariants.{Full, NoMemory as No_memory_for_array}
 use Rattle.tam_istr.specs.declared.errors.FetchError.{FetchError}
 use Rattle.tam_istr.specs.declared.errors.FetchError.TheVariants.{NoArray as No_array_to_fetch, OutOfRange as Fetch_out_of_range}
 use Rattle.tam_istr.specs.declared.errors.FetchError.TheVariants.{NoMemory as No_memory_for_reader}
 use Rattle.tam_istr.specs.declared.errors.StoreError.{StoreError}
 use Rattle.tam_istr.specs.declared.errors.StoreError.TheVariants.{NoArray as No_array_to_store, OutOfRange as Store_out_of_range, Twice as Second_store}
-use Rattle.tam_istr.specs.Cells.{Cell, Empty, Filled, Arrays, Access, Now, Deferred, Stored, Twice, NotBelow, NoArray, cells_used, with_array}
+use Rattle.tam_istr.specs.Cells.{Cell, Empty, Filled, Arrays, Access, Now, Deferred, Stored, Twice, NotBelow, NoArray, cells_used}
 
 -- a reader as the pair of its frame and its inlet
 abbrev pub reader_pair : Reader → ℕ × ℕ
@@ -33,27 +31,15 @@ cells_of cells = map cell_of cells
 abbrev pub arrays_of : List (Vec KeptCell Global) → Arrays
 arrays_of arrays = map (λ cells. cells_of cells.items) arrays
 
--- the arrays, and how many cells they may have together
-pub record CellArrays : Type 0 where
-  pub arrays : Arrays
-  pub limit : ℕ
-
--- the cells in use are counted, and within the limit
-pub record IsWithin (arrays : Arrays) (used limit : ℕ) : Type 0 where
-  pub counted : used ≡ cells_used arrays
-  pub within : used ≤ limit
-  pub fits : limit < 2 ^ 32
-
 -- the length of each array is a word
 abbrev pub AreShort : Arrays → Type 0
 AreShort arrays = (a : ℕ) (cells : List Cell) → slice_get arrays a ≡ Some cells → length cells < 2 ^ 32
 
--- an array was made and has the next number; or it is refused, exactly where there would be more cells than the limit,
--- or for want of memory, and all is as before
-abbrev pub AllocAnswer : CellArrays → CellArrays → ℕ → Result ℕ AllocError → Type 0
-AllocAnswer old new n (Ok number) = (number ≡ length old.arrays) × (cells_used old.arrays + n ≤ old.limit) × (new.arrays ≡ with_array old.arrays n)
-AllocAnswer old new n (Err (Full used len)) = (used ≡ cells_used old.arrays) × (len ≡ n) × (old.limit < cells_used old.arrays + n) × (new.arrays ≡ old.arrays)
-AllocAnswer old new n (Err No_memory_for_array) = (cells_used old.arrays + n ≤ old.limit) × (new.arrays ≡ old.arrays)
+-- the cells in use are counted, each length is a word, and so all together are fewer than a count of 64 bits
+pub record IsCounted (arrays : Arrays) (used : ℕ) : Type 0 where
+  pub counted : used ≡ cells_used arrays
+  pub short : AreShort arrays
+  pub few : used ≤ 4294967295 * length arrays
 
 -- the reader waits from now on
 abbrev pub IsDeferred : Access → Type 0

@@ -1,11 +1,11 @@
 // Arrays of cells.
-ghost use Rattle.std.specs.Prelude.{◌≡◌, ◌+◌, ◌<◌, ◌≤◌, ◌^◌, ◌↔◌, [], ◌∷◌, ◌++◌, length, map, replicate, IfOk, OnOk, OnErr, IsErrOf, vec_len};
+ghost use Rattle.std.specs.Prelude.{◌≡◌, ◌<◌, [], length, replicate, IfOk, OnOk, OnErr};
 ghost use Rattle.tam_istr.specs.Cells.{Empty, cells_used, with_array, fetched_from, stored_into};
-ghost use Rattle.tam_istr.specs.CellAnswers.{reader_pair, cells_of, arrays_of, AreShort, AllocAnswer, FetchAnswer, StoreAnswer};
+ghost use Rattle.tam_istr.specs.CellAnswers.{reader_pair, cells_of, arrays_of, AreShort, FetchAnswer, StoreAnswer};
 
 use crate::cell::Cell;
-use crate::{AllocError, FetchError, Reader, StoreError};
-use std::alloc::{AllocError as OutOfMemory, Global};
+use crate::{FetchError, Reader, StoreError};
+use std::alloc::{AllocError, Global};
 use std::marker::Model;
 use std::mem;
 
@@ -16,75 +16,64 @@ pub enum Fetched {
     Deferred,
 }
 
-/// Arrays, numbered from 0 in the order in which they were made, whose cells are written at most once.
+/// Arrays, numbered from 0 in the order in which they were made, whose cells are written at most once. How many cells there may be is for
+/// the caller to say.
 #[derive(Drop)]
 pub struct Cells {
     alloc: Global,
     arrays: Vec<Vec<Cell>>,
-    used: u32,
-    limit: u32,
+    used: u64,
 }
 
 impl Model for Cells {
-    ghost use Rattle.std.specs.Prelude.{◌≡◌, ◌≤◌, ◌<◌, ◌^◌};
-    ghost use Rattle.tam_istr.specs.Cells.{cells_used};
-    ghost use Rattle.tam_istr.specs.CellAnswers.{CellArrays, IsWithin, arrays_of};
+    ghost use Rattle.tam_istr.specs.Cells.{Arrays};
+    ghost use Rattle.tam_istr.specs.CellAnswers.{IsCounted, arrays_of};
 
-    ghost Value = { CellArrays };
+    ghost Value = { Arrays };
 
-    ghost view = { λ c. record { arrays = arrays_of c.arrays.items; limit = c.limit } };
+    ghost view = { λ c. arrays_of c.arrays.items };
 
-    ghost invariant = { λ c. IsWithin (arrays_of c.arrays.items) c.used c.limit };
+    ghost invariant = { λ c. IsCounted (arrays_of c.arrays.items) c.used };
 }
 
 impl Cells {
-    /// No arrays. At most `limit` cells may come to be in use.
-    pub fn new(alloc: Global, limit: u32) -> Cells
-        ensures { result ≡ record { arrays = []; limit = limit } }
+    /// No arrays. Takes no memory.
+    pub fn new(alloc: Global) -> Cells
+        ensures empty { result ≡ [] }
     {
         Cells {
             alloc,
             arrays: Vec::new(alloc),
             used: 0,
-            limit,
         }
     }
 
     /// How many cells are in use.
-    pub fn used(&self) -> u32
-        ensures value { result ≡ cells_used self.now.arrays }
-        ensures within { result ≤ self.now.limit }
+    pub fn used(&self) -> u64
+        ensures value { result ≡ cells_used self.now }
     {
         self.used
     }
 
     /// Makes an array of empty cells, and gives its number.
     pub fn alloc_cells(&mut self, len: u32) -> Result<u32, AllocError>
-        requires { length self.old.arrays < 4294967295 }
-        ensures answer { AllocAnswer self.old self.new len result }
-        ensures limit { self.new.limit ≡ self.old.limit }
+        requires few { length self.old < 4294967295 }
+        ensures number { IfOk result (λ number. number ≡ length self.old) }
+        ensures ok { OnOk result (self.new ≡ with_array self.old len) }
+        ensures err { OnErr result (self.new ≡ self.old) }
     {
-        if len > self.limit - self.used {
-            return Err(AllocError::Full {
-                used: self.used,
-                len,
-            });
-        }
         let number = self.arrays.len() as u32;
-        let Ok(cells) = empty_cells(self.alloc, len) else {
-            return Err(AllocError::NoMemory);
-        };
-        if self.arrays.push(cells).is_err() {
-            return Err(AllocError::NoMemory);
-        }
-        self.used += len;
+        let cells = empty_cells(self.alloc, len)?;
+        self.arrays.push(cells)?;
+        self.used += u64::from(len);
         Ok(number)
     }
 
     /// Reads a cell. Where it is empty, the reader waits from now on, behind those who wait already.
     pub fn fetch(&mut self, array: u32, index: u32, reader: Reader) -> Result<Fetched, FetchError>
-        ensures answer { FetchAnswer (fetched_from self.old.arrays array index (reader_pair reader)) self.old.arrays self.new.arrays result }
-        ensures limit { self.new.limit ≡ self.old.limit }
+        ensures answer { FetchAnswer (fetched_from self.old array index (reader_pair reader)) self.old self.new result }
+        ensures count { length self.new ≡ length self.old }
+        ensures used { cells_used self.new ≡ cells_used self.old }
     {
         fetch_cell(&mut self.arrays, array, index, reader)
     }
@@ -97,16 +86,17 @@ impl Cells {
         word: u32,
         site: u32,
     ) -> Result<Vec<Reader>, StoreError>
-        ensures answer { StoreAnswer (stored_into self.old.arrays array index word site) self.old.arrays self.new.arrays result }
-        ensures limit { self.new.limit ≡ self.old.limit }
+        ensures answer { StoreAnswer (stored_into self.old array index word site) self.old self.new result }
+        ensures count { length self.new ≡ length self.old }
+        ensures used { cells_used self.new ≡ cells_used self.old }
     {
         store_cell(&mut self.arrays, array, index, word, site)
     }
 }
 
 // So many empty cells.
-fn empty_cells(alloc: Global, len: u32) -> Result<Vec<Cell>, OutOfMemory>
-    ensures { IfOk result (λ cells. cells_of cells.items ≡ replicate len (Empty [])) }
+fn empty_cells(alloc: Global, len: u32) -> Result<Vec<Cell>, AllocError>
+    ensures value { IfOk result (λ cells. cells_of cells.items ≡ replicate len (Empty [])) }
 {
     let mut cells = Vec::with_capacity(alloc, len as usize)?;
     for _ in 0..len {
@@ -124,9 +114,10 @@ fn fetch_cell(
     index: u32,
     reader: Reader,
 ) -> Result<Fetched, FetchError>
-    requires { AreShort (arrays_of arrays.old) }
+    requires short { AreShort (arrays_of arrays.old) }
     ensures answer { FetchAnswer (fetched_from (arrays_of arrays.old) array index (reader_pair reader)) (arrays_of arrays.old) (arrays_of arrays.new) result }
     ensures sizes { cells_used (arrays_of arrays.new) ≡ cells_used (arrays_of arrays.old) }
+    ensures short { AreShort (arrays_of arrays.new) }
 {
     if array as usize >= arrays.len() {
         return Err(FetchError::NoArray);
@@ -157,9 +148,10 @@ fn store_cell(
     word: u32,
     site: u32,
 ) -> Result<Vec<Reader>, StoreError>
-    requires { AreShort (arrays_of arrays.old) }
+    requires short { AreShort (arrays_of arrays.old) }
     ensures answer { StoreAnswer (stored_into (arrays_of arrays.old) array index word site) (arrays_of arrays.old) (arrays_of arrays.new) result }
     ensures sizes { cells_used (arrays_of arrays.new) ≡ cells_used (arrays_of arrays.old) }
+    ensures short { AreShort (arrays_of arrays.new) }
 {
     if array as usize >= arrays.len() {
         return Err(StoreError::NoArray);

@@ -1,13 +1,5 @@
 // Why arrays and their cells refuse.
 
-/// Why no array was made.
-#[derive(Clone, Copy, Debug, PartialEq, Eq)]
-pub enum AllocError {
-    /// The cells in use and those of the array are more than the limit.
-    Full { used: u32, len: u32 },
-    NoMemory,
-}
-
 /// Why a cell was not read.
 #[derive(Clone, Copy, Debug, PartialEq, Eq)]
 pub enum FetchError {

@@ -1,16 +1,9 @@
+use Rattle.tam_eval.specs.Machines.{state_of}
+use Rattle.tam_eval.proofs.Stepping.{outcome-settled}
 use Rattle.tam_eval.proofs.delivering.deliver.Goals as goal
 
-pub returns-in-Word-clause-outcome : goal.returns-in-Word-clause-outcome
-returns-in-Word-clause-outcome c = λ order printed. rw c.in-Word.is (c.deliver_word.ensures.outcome order printed)
-
-pub returns-in-Frame-clause-outcome : goal.returns-in-Frame-clause-outcome
-returns-in-Frame-clause-outcome c = λ order printed. rw c.in-Frame.is (c.deliver_frame.ensures.outcome order printed)
-
-pub returns-in-Cells-clause-outcome : goal.returns-in-Cells-clause-outcome
-returns-in-Cells-clause-outcome c = λ order printed. rw c.in-Cells.is (c.deliver_cells.ensures.outcome order printed)
-
-pub returns-in-Fetch-clause-outcome : goal.returns-in-Fetch-clause-outcome
-returns-in-Fetch-clause-outcome c = λ order printed. rw c.in-Fetch.is (c.deliver_fetch.ensures.outcome order printed)
-
-pub returns-in-Store-clause-outcome : goal.returns-in-Store-clause-outcome
-returns-in-Store-clause-outcome c = λ order printed. rw c.in-Store.is (c.deliver_store.ensures.outcome order printed)
+pub returns-clause-outcome : goal.returns-clause-outcome
+returns-clause-outcome c = λ order printed.
+    outcome-settled c.args.program.now c.args.limits.now (state_of c.args.machine.now) c.args.message order printed c.in_ok-has_room.ensures.value
+    c.deliver.new.self c.in_ok-delivery.delivery (state_of c.settle.new.machine) c.settle.result c.in_ok-delivery.ensures.cells.activations
+    c.in_ok-delivery.ensures.kept c.in_ok-delivery.ensures.value (c.settle.ensures.outcome order printed)

@@ -2,4 +2,4 @@ use Rattle.tam_flow.proofs.JournalsReached.{journals-reached}
 use Rattle.tam_flow.proofs.laws.law_reached.Goals as goal
 
 pub returns : goal.returns
-returns c = journals-reached
+returns c = record { reached = journals-reached }

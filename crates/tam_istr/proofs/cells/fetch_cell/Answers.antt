@@ -4,7 +4,7 @@ use Rattle.tam_istr.specs.Cells.{Empty, NotBelow, Deferred, fetch_of, with_cell,
 use Rattle.tam_istr.specs.declared.cell.Cell.TheVariants.{Empty as Kept_empty, Filled as Kept_filled}
 use Rattle.tam_istr.specs.declared.reader.Reader.{Reader as KeptReader}
 use Rattle.tam_istr.specs.CellAnswers.{IsDeferred, arrays_of, reader_pair}
-use Rattle.tam_istr.proofs.KeptLemmas.{kept_beyond, kept_found, kept_written, kept_unchanged, kept_sizes}
+use Rattle.tam_istr.proofs.KeptLemmas.{kept_beyond, kept_found, kept_written, kept_unchanged, kept_sizes, kept_short}
 use Rattle.tam_istr.proofs.cells.fetch_cell.Goals as goal
 
 pub returns-then-index-len-clause-answer : goal.returns-then-index-len-clause-answer
@@ -81,3 +81,15 @@ returns-in-Filled-clause-sizes c = kept_sizes c.args.arrays.now c.args.array c.a
 pub returns-else-is_err-clause-sizes : goal.returns-else-is_err-clause-sizes
 returns-else-is_err-clause-sizes c = kept_sizes c.args.arrays.now c.args.array c.args.index c.index-arrays-array.result c.if-array-arrays.false
     (Kept_empty c.push.new.self)
+
+pub returns-then-is_err-clause-short : goal.returns-then-is_err-clause-short
+returns-then-is_err-clause-short c = kept_short c.args.arrays.now c.args.array c.args.index c.index-arrays-array.result c.if-array-arrays.false
+    (Kept_empty c.push.new.self) c.requires.short
+
+pub returns-in-Filled-clause-short : goal.returns-in-Filled-clause-short
+returns-in-Filled-clause-short c = kept_short c.args.arrays.now c.args.array c.args.index c.index-arrays-array.result c.if-array-arrays.false
+    (Kept_filled c.in-Filled.word c.in-Filled.site) c.requires.short
+
+pub returns-else-is_err-clause-short : goal.returns-else-is_err-clause-short
+returns-else-is_err-clause-short c = kept_short c.args.arrays.now c.args.array c.args.index c.index-arrays-array.result c.if-array-arrays.false
+    (Kept_empty c.push.new.self) c.requires.short

@@ -5,7 +5,7 @@ use Rattle.tam_istr.specs.declared.cell.Cell.TheVariants.{Empty as Kept_empty, F
 use Rattle.std.specs.Vec.{with_item}
 use Rattle.tam_istr.specs.declared.cell.Cell.{Cell as KeptCell}
 use Rattle.tam_istr.specs.CellAnswers.{cell_of, arrays_of, reader_pair}
-use Rattle.tam_istr.proofs.KeptLemmas.{kept_beyond, kept_found, kept_written, kept_unchanged, kept_sizes}
+use Rattle.tam_istr.proofs.KeptLemmas.{kept_beyond, kept_found, kept_written, kept_unchanged, kept_sizes, kept_short}
 use Rattle.tam_istr.proofs.cells.store_cell.Goals as goal
 
 pub returns-then-index-len-clause-answer : goal.returns-then-index-len-clause-answer
@@ -60,3 +60,11 @@ returns-in-Filled-clause-sizes c = kept_sizes c.args.arrays.now c.args.array c.a
 
 pub returns-clause-sizes : goal.returns-clause-sizes
 returns-clause-sizes c = kept_sizes c.args.arrays.now c.args.array c.args.index c.index-arrays-array.result c.if-array-arrays.false (c.replace.new.dest)
+
+pub returns-in-Filled-clause-short : goal.returns-in-Filled-clause-short
+returns-in-Filled-clause-short c = kept_short c.args.arrays.now c.args.array c.args.index c.index-arrays-array.result c.if-array-arrays.false
+    (Kept_filled c.in-Filled.word c.in-Filled.first) c.requires.short
+
+pub returns-clause-short : goal.returns-clause-short
+returns-clause-short c = kept_short c.args.arrays.now c.args.array c.args.index c.index-arrays-array.result c.if-array-arrays.false
+    (c.replace.new.dest) c.requires.short

@@ -1,0 +1,20 @@
+use Rattle.std.proofs.Common.{◌≡◌, ◌++◌, ◌∷◌, [], map, length}
+use Rattle.tam_msgs.specs.declared.message.Message.TheVariants.{Word as Carry}
+use Rattle.tam_graph.specs.Graphs.{code_of}
+use Rattle.tam_world.specs.Kept.{pairs_of}
+use Rattle.tam_world.specs.Takers.{starters_of}
+use Rattle.tam_world.proofs.Kept.{on_ok}
+use Rattle.tam_eval.specs.Machines.{state_of}
+use Rattle.tam_eval.proofs.Stepping.{state-begun}
+use Rattle.tam_eval.proofs.steps.begin.Goals as goal
+
+pub returns-clause-value : goal.returns-clause-value
+returns-clause-value c =
+    let s = state_of c.args.machine.now in
+    let number = c.activations-word.result in
+    let count : number ≡ length s.world.activations = c.activations-word.ensures.value in
+    let more : pairs_of c.ready_all.new.ready.items ≡ s.ready ++ map (λ z. (number, z)) (starters_of (code_of c.args.program.now c.args.code)) =
+    rw c.starters.ensures.value at c.in_ok-ready_all.ensures.ok in
+    on_ok c.send.result (λ (sent : c.send.new.pending.messages ≡ s.pending ++ Carry c.args.call.activation c.args.call.node number ∷ []).
+    state-begun c.args.program.now s c.args.code c.args.call.activation c.args.call.node number c.begin.new.self (pairs_of c.ready_all.new.ready.items)
+    c.send.new.pending.messages c.in_ok-begin.ensures.ok count more sent) c.send.ensures.ok

@@ -1,7 +1,0 @@
-use Rattle.tam_graph.specs.Graphs.{code_of}
-use Rattle.tam_eval.specs.Tables.{listed}
-use Rattle.tam_eval.proofs.TableLists.{AreListsBelow}
-use Rattle.tam_eval.proofs.table.Table.of.Given as goal
-
-abbrev pub invariant-loop-x : goal.invariant-loop-x
-invariant-loop-x l = AreListsBelow (code_of l.graph l.code) (listed l.takers.items) (listed l.firers.items) (listed l.inlets.items) l.x

@@ -1,6 +1,0 @@
-use Rattle.std.proofs.Common.{◌≡◌, drop}
-use Rattle.tam_word.specs.Lists.{has}
-use Rattle.tam_flow.proofs.lists.has.Given as goal
-
-abbrev pub invariant-loop-x : goal.invariant-loop-x
-invariant-loop-x l = has (drop l.x-index l.list) l.number ≡ has l.list l.number

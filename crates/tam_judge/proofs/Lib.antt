@@ -1,0 +1,10 @@
+mod OrderSteps
+mod CheckedRuns
+mod MayFollow
+mod AnyOf
+mod CheckedClasses
+mod CheckedDeliveries
+mod CheckedJournals
+mod MachineStates
+pub mod SmallGraphs
+pub mod WholeBlocks

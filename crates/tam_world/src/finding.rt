@@ -1,0 +1,76 @@
+// Nodes by what they do.
+ghost use Rattle.std.specs.Prelude.{◌≡◌, option_to_list};
+ghost use Rattle.tam_graph.specs.Graphs.{code_of, owner_of, node_in, is_enter};
+ghost use Rattle.tam_world.specs.Worlds.{merges_of};
+ghost use Rattle.tam_world.specs.Sought.{is_sought, sought_in, key_of};
+
+use crate::nodes::{block_at, kind_at, owner_of};
+use crate::program::Program;
+use tam_graph::Kind;
+
+/// What node is looked for, by what it does.
+#[derive(Clone, Copy)]
+pub(crate) enum Sought {
+    Param { place: u32 },
+    Ret { call: u32, place: u32 },
+    Merge { cond: u32, place: u32 },
+    Enter { block: u32, place: u32 },
+}
+
+// Whether the node is the one that is looked for.
+fn is_sought(sought: Sought, block: u32, kind: Kind) -> bool
+    ensures value { result ≡ is_sought sought block kind }
+{
+    match (sought, kind) {
+        (Sought::Param { place }, Kind::Param { place: k }) => k == place,
+        (Sought::Ret { call, place }, Kind::Ret { call: f, place: k }) => f == call && k == place,
+        (Sought::Merge { cond, place }, Kind::Merge { cond: d, place: k }) => d == cond
+            && k == place,
+        (Sought::Enter { block: b, place }, Kind::Enter { place: k }) => block == b && k == place,
+        _ => false,
+    }
+}
+
+// The number under which it is kept.
+fn key_of(sought: Sought) -> u32
+    ensures value { result ≡ key_of sought }
+{
+    match sought {
+        Sought::Param { place } => place,
+        Sought::Ret { call, .. } => call,
+        Sought::Merge { cond, .. } => cond,
+        Sought::Enter { block, .. } => block,
+    }
+}
+
+// The first node that is what is looked for.
+pub(crate) fn find_node(program: &Program<'_>, code: u32, sought: Sought) -> Option<u32>
+    ensures value { option_to_list result ≡ sought_in (code_of program.now code) sought }
+{
+    let inlets = program.inlets(code, key_of(sought));
+    for x in inlets {
+        let block = block_at(program.graph(), code, *x);
+        let kind = kind_at(program.graph(), code, *x);
+        if is_sought(sought, block, kind) {
+            return Some(*x);
+        }
+    }
+    None
+}
+
+// The `in` of a place in a block.
+pub(crate) fn find_enter(program: &Program<'_>, code: u32, block: u32, place: u32) -> Option<u32>
+    ensures value { option_to_list result ≡ node_in (code_of program.now code) block (is_enter place) }
+{
+    find_node(program, code, Sought::Enter { block, place })
+}
+
+// The merge of a place of the cond that opens a block.
+pub(crate) fn find_merge(program: &Program<'_>, code: u32, block: u32, place: u32) -> Option<u32>
+    ensures value { option_to_list result ≡ merges_of (code_of program.now code) place (owner_of (code_of program.now code) block) }
+{
+    match owner_of(program.graph(), code, block) {
+        Some(cond) => find_node(program, code, Sought::Merge { cond, place }),
+        None => None,
+    }
+}

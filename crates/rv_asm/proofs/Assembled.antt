@@ -2,7 +2,7 @@
 use Rattle.std.proofs.Common.{◌≡◌, ℕ, ◌+◌, ◌≤◌, ◌<◌, Bool, true, false, not, ◌&&◌, List, [], ◌∷◌, length, map, refl, sym, ap, subst, ◌∙◌, arith}
 use Rattle.std.proofs.lemmas.List.{length-map}
 use Rattle.tam_text.specs.Lines.{lines_of, is_some_of}
-use Rattle.rv_image.specs.declared.image.TheConstants.{MAX_WORDS}
+use Rattle.rv_image.specs.ImageFiles.{max_words}
 use Rattle.rv_image.specs.ImageFiles.{IsImage}
 use Rattle.rv_asm.specs.declared.asm_error.AsmCause.{AsmCause}
 use Rattle.rv_asm.specs.declared.asm_error.AsmCause.TheVariants.{Ended}
@@ -55,8 +55,8 @@ module _ (text : List ℕ) (pass : Pass) (first : first_faults text ≡ []) (all
   sound = subst (λ (z : Said). IsSound z × (faults_at_end z ≡ [])) (sym all) (sound_from (last_line text) nothing_said 1 (lines_of text) first nothing_sound)
 
   -- not too many words
-  pub few_words : (ps : List PlacedAt) → ps ≡ pass.words.items → length ps ≤ MAX_WORDS
-  few_words ps is = let h : length (map placed_seen pass.words.items) ≤ MAX_WORDS = sound.0.few in
+  pub few_words : (ps : List PlacedAt) → ps ≡ pass.words.items → length ps ≤ max_words
+  few_words ps is = let h : length (map placed_seen pass.words.items) ≤ max_words = sound.0.few in
       omega (arith, length-map pass.words.items placed_seen, ap length is)
 
   -- the image is one

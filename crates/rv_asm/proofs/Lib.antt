@@ -22,3 +22,5 @@ pub mod LinesCut
 pub mod PrintedLines
 pub mod PrintedReads
 pub mod PrintedLength
+mod CutTokens
+mod FirstTokens

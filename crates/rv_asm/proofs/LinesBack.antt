@@ -8,7 +8,7 @@ use Rattle.std.proofs.lemmas.List.{map-append, length-append}
 use Rattle.tam_word.specs.Lists.{all_of, all_differ, same_bytes, where_so}
 use Rattle.tam_text.specs.Lines.{without_comment, is_at_end, is_good_byte, are_good_bytes, is_some_of}
 use Rattle.rv_inst.specs.Images.{Image}
-use Rattle.rv_image.specs.declared.image.TheConstants.{MAX_WORDS}
+use Rattle.rv_image.specs.ImageFiles.{max_words}
 use Rattle.rv_asm.specs.declared.asm_error.AsmCause.{AsmCause}
 use Rattle.rv_asm.specs.declared.asm_error.AsmCause.TheVariants.{BadHead, BadLine, TwiceNamed, TooMany, Ended}
 use Rattle.rv_asm.specs.declared.head.Next.{Next}
@@ -89,16 +89,16 @@ both_none f xs ys e h = ap (λ zs. map f zs ++ ys) e ∙ h
 -- statements may stand behind what is said
 pub record Fits (s : Said) (ss : List Statement) : Type 0 where
   pub differ : all_differ same_bytes (names (s.labels ++ labels_from (length s.words) ss)) ≡ true
-  pub few : length s.words + length (codes_in ss) ≤ MAX_WORDS
+  pub few : length s.words + length (codes_in ss) ≤ max_words
   pub some : 0 < length s.words + length (codes_in ss)
 
 -- fewer words than the most
-not_many : (n : ℕ) → n < MAX_WORDS → leb MAX_WORDS n ≡ false
-not_many n h = go (leb MAX_WORDS n) refl
+not_many : (n : ℕ) → n < max_words → leb max_words n ≡ false
+not_many n h = go (leb max_words n) refl
   where
-    go : (t : Bool) → leb MAX_WORDS n ≡ t → leb MAX_WORDS n ≡ false
+    go : (t : Bool) → leb max_words n ≡ t → leb max_words n ≡ false
     go false p = p
-    go true p = let le = leb-true MAX_WORDS n p in absurd (omega arith)
+    go true p = let le = leb-true max_words n p in absurd (omega arith)
 
 -- the first has no fault
 statement_none : (s : Said) (st : Statement) (ss : List Statement) → Fits s (st ∷ ss) → faults_of_statement s (Ok st) ≡ []
@@ -134,7 +134,7 @@ head_fits s m ss f =
     record {
       differ = ap (λ (xs : Labels). all_differ same_bytes (names (xs ++ labels_from (length (with_number s.next m s).words) ss))) ls
           ∙ ap (λ (k : Placed). all_differ same_bytes (names (s.labels ++ labels_from (length k) ss))) ws ∙ f.differ;
-      few = subst (λ (k : Placed). length k + length (codes_in ss) ≤ MAX_WORDS) (sym ws) f.few;
+      few = subst (λ (k : Placed). length k + length (codes_in ss) ≤ max_words) (sym ws) f.few;
       some = subst (λ (k : Placed). 0 < length k + length (codes_in ss)) (sym ws) f.some;
     }
 

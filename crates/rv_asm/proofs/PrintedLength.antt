@@ -11,14 +11,15 @@ use Rattle.rv_inst.specs.Instructions.{decoded}
 use Rattle.rv_inst.specs.Images.{Image}
 use Rattle.rv_inst.specs.Ranges.{IsInRange}
 use Rattle.rv_inst.proofs.Candidates.{decodes-truly}
-use Rattle.rv_image.specs.declared.image.TheConstants.{MAX_WORDS, MAX_PLACES}
+use Rattle.rv_image.specs.ImageFiles.{max_words, max_places}
 use Rattle.rv_image.specs.ImageFiles.{IsImage}
 use Rattle.rv_image.specs.ImageLaws.{AreBelow}
 use Rattle.rv_asm.specs.declared.operand.Operand.{Operand}
 use Rattle.rv_asm.specs.declared.operand.Operand.TheVariants.{Register, Number, Signed, Address}
 use Rattle.rv_asm.specs.InstNames.{name_text, verb_of}
 use Rattle.rv_asm.specs.AsmText.{register, operand_text, operands, further_operands, operands_text, inst_text, word_text, word_line, head_line, asm_text}
-use Rattle.rv_asm.proofs.TokenBytes.{address-same, below-12, below-13, below-21, verb-short}
+use Rattle.rv_asm.proofs.OperandsSaid.{immediate_fits, branch_fits, jump_fits}
+use Rattle.rv_asm.proofs.TokenBytes.{address-same, verb-short}
 use Rattle.rv_asm.proofs.PrintedReads.{stride-small, text-same}
 
 -- ---- operands
@@ -86,16 +87,17 @@ signed w l = let z = signed-short w l in omega arith
 -- the operands of an instruction in range
 operands-few : (i : Inst) → IsInRange i → AreFew (operands i)
 operands-few (R n rd rs1 rs2) h = three-short (Register rd) (Register rs1) (Register rs2) (named rd h.0) (named rs1 h.1) (named rs2 h.2)
-operands-few (I n rd rs1 imm) h = three-short (Register rd) (Register rs1) (Signed imm) (named rd h.0) (named rs1 h.1) (signed imm (below-12 imm h.2))
+operands-few (I n rd rs1 imm) h = three-short (Register rd) (Register rs1) (Signed imm) (named rd h.0) (named rs1 h.1) (signed imm (immediate_fits imm h.2))
 operands-few (Shift n rd rs1 by) h =
     let l = h.2 in three-short (Register rd) (Register rs1) (Number by) (named rd h.0) (named rs1 h.1) (numbered by (omega arith))
-operands-few (Load n rd rs1 imm) h = two-short (Register rd) (Address imm rs1) (named rd h.0) (address-short imm rs1 (below-12 imm h.2) h.1)
-operands-few (Store n rs1 rs2 imm) h = two-short (Register rs2) (Address imm rs1) (named rs2 h.1) (address-short imm rs1 (below-12 imm h.2) h.0)
-operands-few (Branch n rs1 rs2 off) h = three-short (Register rs1) (Register rs2) (Signed off) (named rs1 h.0) (named rs2 h.1) (signed off (below-13 off h.2))
+operands-few (Load n rd rs1 imm) h = two-short (Register rd) (Address imm rs1) (named rd h.0) (address-short imm rs1 (immediate_fits imm h.2) h.1)
+operands-few (Store n rs1 rs2 imm) h = two-short (Register rs2) (Address imm rs1) (named rs2 h.1) (address-short imm rs1 (immediate_fits imm h.2) h.0)
+operands-few (Branch n rs1 rs2 off) h =
+    three-short (Register rs1) (Register rs2) (Signed off) (named rs1 h.0) (named rs2 h.1) (signed off (branch_fits off h.2))
 operands-few (Lui rd imm) h = let l = h.1 in two-short (Register rd) (Number imm) (named rd h.0) (numbered imm (omega arith))
 operands-few (Auipc rd imm) h = let l = h.1 in two-short (Register rd) (Number imm) (named rd h.0) (numbered imm (omega arith))
-operands-few (Jal rd off) h = two-short (Register rd) (Signed off) (named rd h.0) (signed off (below-21 off h.1))
-operands-few (Jalr rd rs1 imm) h = two-short (Register rd) (Address imm rs1) (named rd h.0) (address-short imm rs1 (below-12 imm h.2) h.1)
+operands-few (Jal rd off) h = two-short (Register rd) (Signed off) (named rd h.0) (signed off (jump_fits off h.1))
+operands-few (Jalr rd rs1 imm) h = two-short (Register rd) (Address imm rs1) (named rd h.0) (address-short imm rs1 (immediate_fits imm h.2) h.1)
 operands-few (Fence rd rs1 bits) h =
     let l = h.2 in three-short (Register rd) (Register rs1) (Number bits) (named rd h.0) (named rs1 h.1) (numbered bits (omega arith))
 operands-few Ecall h = no-operands
@@ -164,14 +166,14 @@ behind-head : (line text : List ℕ) (n : ℕ) → length line ≤ 20 → length
 behind-head line text n h k = let whole = length-append line text in omega arith
 
 -- so many bytes aren't too many
-enough : (n count : ℕ) → n ≤ 85 * count + 20 + 20 + 20 + 20 → count ≤ MAX_WORDS → n ≤ 4294967294
+enough : (n count : ℕ) → n ≤ 85 * count + 20 + 20 + 20 + 20 → count ≤ max_words → n ≤ 4294967294
 enough n count h k = omega arith
 
 -- the whole text
 pub text_short : (image : Image) → IsImage image → AreBelow (2 ^ 32) image.words → length (asm_text image) ≤ 4294967294
 text_short image i b =
-    let params : image.params ≤ MAX_PLACES = i.params in
-    let results : image.results ≤ MAX_PLACES = i.results in
+    let params : image.params ≤ max_places = i.params in
+    let results : image.results ≤ max_places = i.results in
     let stride : image.stride < 2 ^ 31 = stride-small image.stride i.stride in
     let first = head_line (codes ".image ") 1 in
     let second = head_line (codes ".stride ") image.stride in

@@ -11,7 +11,8 @@ use Rattle.rv_asm.specs.InstNames.{name_text, verb_of}
 use Rattle.rv_asm.specs.AsmText.{operand_text, operands, further_operands, operands_text, word_text, word_line, head_line}
 use Rattle.rv_asm.specs.Tokens.{tokens_of}
 use Rattle.rv_asm.proofs.Worded.{operand_tokens, word_tokens}
-use Rattle.rv_asm.proofs.TokenBytes.{is_word, all-more, decimal-word, operands-words, verb-word}
+use Rattle.tam_text.proofs.PlainWords.{is_word, all-more, decimal-word}
+use Rattle.rv_asm.proofs.TokenBytes.{operands-words, verb-word}
 use Rattle.rv_asm.proofs.LinesCut.{line_text, line_tokens, further_line, behind_comma, line-cut-again, line-first, line-good}
 
 -- a line that is one, with these tokens

@@ -12,7 +12,7 @@ use Rattle.tam_word.proofs.SignedText.{word_of-signed_text}
 use Rattle.tam_text.specs.Lines.{lines_of, are_good_bytes, is_some_of}
 use Rattle.rv_inst.specs.Instructions.{decoded}
 use Rattle.rv_inst.specs.Images.{Image}
-use Rattle.rv_image.specs.declared.image.TheConstants.{MAX_PLACES}
+use Rattle.rv_image.specs.ImageFiles.{max_places}
 use Rattle.rv_image.specs.ImageFiles.{is_stride, IsImage}
 use Rattle.rv_image.specs.ImageLaws.{AreBelow}
 use Rattle.rv_asm.specs.declared.asm_error.AsmCause.{AsmCause}
@@ -25,7 +25,7 @@ use Rattle.rv_asm.specs.Reading.{labels_from, codes_in, words_at, AreLines, AsmR
 use Rattle.rv_asm.specs.AsmText.{word_line, head_line, asm_text}
 use Rattle.rv_asm.proofs.Spoken.{said_again}
 use Rattle.rv_asm.proofs.Worded.{word_tokens}
-use Rattle.rv_asm.proofs.TokenBytes.{all-more}
+use Rattle.tam_text.proofs.PlainWords.{all-more}
 use Rattle.rv_asm.proofs.PrintedLines.{IsPrinted, printed-tokens, printed-some, printed-first, printed-good, image-printed, stride-printed}
 use Rattle.rv_asm.proofs.PrintedLines.{params-printed, results-printed, word-printed}
 
@@ -53,12 +53,12 @@ stride-number : (n : ℕ) → is_stride n ≡ true → head_number next.Stride (
 stride-number n h = ap (where_word is_stride) (decimal-read n (stride-small n h)) ∙ kept is_stride n h
 
 -- the third
-params-number : (n : ℕ) → n ≤ MAX_PLACES → head_number next.Params (codes ".params" ∷ decimal n ∷ []) ≡ Some n
-params-number n h = ap (where_word (λ n. nat_le n MAX_PLACES)) (decimal-read n (omega arith)) ∙ kept (λ n. nat_le n MAX_PLACES) n (le-leb n MAX_PLACES h)
+params-number : (n : ℕ) → n ≤ max_places → head_number next.Params (codes ".params" ∷ decimal n ∷ []) ≡ Some n
+params-number n h = ap (where_word (λ n. nat_le n max_places)) (decimal-read n (omega arith)) ∙ kept (λ n. nat_le n max_places) n (le-leb n max_places h)
 
 -- the fourth
-results-number : (n : ℕ) → n ≤ MAX_PLACES → head_number next.Results (codes ".results" ∷ decimal n ∷ []) ≡ Some n
-results-number n h = ap (where_word (λ n. nat_le n MAX_PLACES)) (decimal-read n (omega arith)) ∙ kept (λ n. nat_le n MAX_PLACES) n (le-leb n MAX_PLACES h)
+results-number : (n : ℕ) → n ≤ max_places → head_number next.Results (codes ".results" ∷ decimal n ∷ []) ≡ Some n
+results-number n h = ap (where_word (λ n. nat_le n max_places)) (decimal-read n (omega arith)) ∙ kept (λ n. nat_le n max_places) n (le-leb n max_places h)
 
 -- ---- lines of printed texts
 

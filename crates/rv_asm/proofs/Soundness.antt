@@ -6,7 +6,7 @@ use Rattle.std.proofs.lemmas.List.{length-append}
 use Rattle.std.proofs.lemmas.Bool.{leb-true, leb-false}
 use Rattle.tam_word.specs.Lists.{where_so, same_bytes}
 use Rattle.tam_word.specs.Numbers.{word_of, some_if}
-use Rattle.rv_image.specs.declared.image.TheConstants.{MAX_WORDS, MAX_PLACES}
+use Rattle.rv_image.specs.ImageFiles.{max_words, max_places}
 use Rattle.rv_image.specs.ImageFiles.{is_stride}
 use Rattle.rv_asm.specs.declared.asm_error.AsmCause.{AsmCause}
 use Rattle.rv_asm.specs.declared.asm_error.AsmCause.TheVariants.{TooMany}
@@ -70,9 +70,9 @@ put : (s : Said) (k : Next) (n : ℕ) (t : List ℕ) → head_value k t ≡ Some
 put s next.Image n t e h = h
 put s next.Stride n t e h = record { stride = word_passed is_stride (word_of t) n e; params = h.params; results = h.results; few = h.few }
 put s next.Params n t e h =
-    record { stride = h.stride; params = leb-true n MAX_PLACES (word_passed (λ m. leb m MAX_PLACES) (word_of t) n e); results = h.results; few = h.few }
+    record { stride = h.stride; params = leb-true n max_places (word_passed (λ m. leb m max_places) (word_of t) n e); results = h.results; few = h.few }
 put s next.Results n t e h =
-    record { stride = h.stride; params = h.params; results = leb-true n MAX_PLACES (word_passed (λ m. leb m MAX_PLACES) (word_of t) n e); few = h.few }
+    record { stride = h.stride; params = h.params; results = leb-true n max_places (word_passed (λ m. leb m max_places) (word_of t) n e); few = h.few }
 put s next.Body n t e h = h
 
 -- whatever comes next
@@ -91,7 +91,7 @@ pub statement_sound : (s : Said) (n : ℕ) (r : Result Statement AsmCause) → f
 statement_sound s n (Err c) e h = h
 statement_sound s n (Ok (Label name)) e h = record { stride = h.stride; params = h.params; results = h.results; few = h.few }
 statement_sound s n (Ok (Coded c)) e h =
-    let below = leb-false MAX_WORDS (length s.words) (where_none (leb MAX_WORDS (length s.words)) TooMany e) in
+    let below = leb-false max_words (length s.words) (where_none (leb max_words (length s.words)) TooMany e) in
     record { stride = h.stride; params = h.params; results = h.results; few = omega (arith, length-append s.words ((n, c) ∷ [])) }
 
 -- tokens behind the head

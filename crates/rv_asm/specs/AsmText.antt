@@ -1,5 +1,5 @@
 -- The assembly text of an image.
--- The rule in words: docs/FORMATS.md, "Assembly text".
+-- The rule in words: docs/MACHINE.md, "Assembly text".
 use Rattle.std.specs.Prelude.{ℕ, List, [], ◌∷◌, ◌++◌, codes, decimal, flat_map}
 use Rattle.tam_word.specs.Words.{signed_text}
 use Rattle.rv_inst.specs.declared.inst.Inst.{Inst}

@@ -8,7 +8,7 @@ use Rattle.tam_word.specs.declared.op.Op.TheVariants.{Mul, Sub}
 use Rattle.tam_word.specs.Words.{meaning}
 use Rattle.tam_text.specs.Lines.{lines_of, without_comment, are_good_bytes, is_some_of}
 use Rattle.rv_inst.specs.Instructions.{encoded}
-use Rattle.rv_image.specs.declared.image.TheConstants.{MAX_WORDS, MIN_STRIDE}
+use Rattle.rv_image.specs.ImageFiles.{max_words, min_stride}
 use Rattle.rv_asm.specs.declared.asm_error.AsmCause.{AsmCause}
 use Rattle.rv_asm.specs.declared.asm_error.AsmCause.TheVariants.{BadHead, BadLine, TwiceNamed, TooMany, Ended, UnknownName, Offset}
 use Rattle.rv_asm.specs.declared.asm_error.AsmError.{AsmError}
@@ -38,7 +38,7 @@ pub record Said : Type 0 where
 
 -- before the first line; the numbers of the head aren't known yet
 abbrev pub nothing_said : Said
-nothing_said = record { next = next.Image; stride = MIN_STRIDE; params = 0; results = 0; labels = []; words = [] }
+nothing_said = record { next = next.Image; stride = min_stride; params = 0; results = 0; labels = []; words = [] }
 
 -- how many words stand before a label
 abbrev pub found : List ℕ → Labels → Option ℕ
@@ -91,21 +91,33 @@ is_head next (t ∷ ts) = is_some (head_number next (t ∷ ts))
 abbrev pub faults_of_statement : Said → Result Statement AsmCause → List AsmCause
 faults_of_statement s (Err c) = c ∷ []
 faults_of_statement s (Ok (Label name)) = where_so (is_some (found name s.labels)) TwiceNamed
-faults_of_statement s (Ok (Coded c)) = where_so (nat_le MAX_WORDS (length s.words)) TooMany
+faults_of_statement s (Ok (Coded c)) = where_so (nat_le max_words (length s.words)) TooMany
 
 -- of a line that has tokens, or none
 abbrev pub faults_of_tokens : Said → List (List ℕ) → List AsmCause
 faults_of_tokens s [] = []
 faults_of_tokens s (t ∷ ts) = faults_of_statement s (statement_of (t ∷ ts))
 
--- of a line in the head: a bad byte outside a comment stands in a token, which isn't one of the head line then
+-- of a line in the head, by its tokens: a bad byte outside a comment stands in a token, which isn't one of the head line then
+abbrev pub head_faults : Next → List ℕ → List (List ℕ) → List AsmCause
+head_faults next line ts =
+    where_so (not (are_good_bytes (without_comment line) && is_head next ts)) BadHead ++ where_so (not (are_good_bytes line)) BadLine
+
+-- of a line in the head
 abbrev pub faults_in_head : Next → List ℕ → List AsmCause
-faults_in_head next line =
-    where_so (not (are_good_bytes (without_comment line) && is_head next (tokens_of line))) BadHead ++ where_so (not (are_good_bytes line)) BadLine
+faults_in_head next line = head_faults next line (tokens_of line)
+
+-- of a line behind it, by its tokens
+abbrev pub body_faults : Said → List ℕ → List (List ℕ) → List AsmCause
+body_faults s line ts = where_so (not (are_good_bytes line)) BadLine ++ faults_of_tokens s ts
 
 -- of a line behind it
 abbrev pub faults_in_body : Said → List ℕ → List AsmCause
-faults_in_body s line = where_so (not (are_good_bytes line)) BadLine ++ faults_of_tokens s (tokens_of line)
+faults_in_body s line = body_faults s line (tokens_of line)
+
+-- the faults of a line behind what was said, in order, by its tokens
+abbrev pub faults_by : Said → List ℕ → List (List ℕ) → List AsmCause
+faults_by s line ts = elim (is_body s.next) [ true ↦ body_faults s line ts | false ↦ head_faults s.next line ts ]
 
 -- the faults of a line behind what was said, in order
 abbrev pub faults_of_line : Said → List ℕ → List AsmCause

@@ -1,9 +1,9 @@
 -- The head lines of a text.
--- The rule in words: docs/FORMATS.md, "Assembly text".
+-- The rule in words: docs/MACHINE.md, "Assembly text".
 use Rattle.std.specs.Prelude.{ℕ, Bool, true, false, nat_le, List, [], ◌∷◌, codes, Option, None}
 use Rattle.tam_word.specs.Lists.{same_bytes}
 use Rattle.tam_word.specs.Numbers.{word_of, some_if}
-use Rattle.rv_image.specs.declared.image.TheConstants.{MAX_PLACES}
+use Rattle.rv_image.specs.ImageFiles.{max_places}
 use Rattle.rv_image.specs.ImageFiles.{is_stride}
 use Rattle.rv_asm.specs.declared.head.Next.{Next}
 use Rattle.rv_asm.specs.declared.head.Next.TheVariants.{Image, Stride, Params, Results, Body}
@@ -21,8 +21,8 @@ head_name Body = []
 abbrev pub head_value : Next → List ℕ → Option ℕ
 head_value Image t = some_if (same_bytes t (codes "1")) 1
 head_value Stride t = where_word is_stride (word_of t)
-head_value Params t = where_word (λ n. nat_le n MAX_PLACES) (word_of t)
-head_value Results t = where_word (λ n. nat_le n MAX_PLACES) (word_of t)
+head_value Params t = where_word (λ n. nat_le n max_places) (word_of t)
+head_value Results t = where_word (λ n. nat_le n max_places) (word_of t)
 head_value Body t = None
 
 -- the number of a head line of these tokens

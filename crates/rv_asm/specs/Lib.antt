@@ -1,6 +1,7 @@
 pub mod InstNames
 pub mod AsmText
 pub mod Tokens
+pub mod Splitting
 pub mod Statements
 pub mod Head
 pub mod StatementView

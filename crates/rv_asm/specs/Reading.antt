@@ -1,5 +1,5 @@
 -- Which texts assemble to an image: line by line against its words.
--- The rule in words: docs/FORMATS.md, "Assembly text".
+-- The rule in words: docs/MACHINE.md, "Assembly text".
 use Rattle.std.specs.Prelude.{◌≡◌, ℕ, ◌+◌, true, List, [], ◌∷◌, map, Some, Result, Ok}
 use Rattle.tam_word.specs.Lists.{all_of, all_differ, same_bytes}
 use Rattle.tam_text.specs.Lines.{lines_of, are_good_bytes}

@@ -1,5 +1,5 @@
 -- What a line behind the head says: a label, a word, or an instruction, whose word may wait for a label.
--- The rule in words: docs/FORMATS.md, "Assembly text".
+-- The rule in words: docs/MACHINE.md, "Assembly text".
 use Rattle.std.specs.Prelude.{ℕ, ◌-◌, ◌%◌, ◌^◌, Bool, true, false, not, ◌&&◌, ◌||◌, ◌==◌, nat_lt, nat_le, List, [], ◌∷◌, codes, Option, Some, None}
 use Rattle.std.specs.Prelude.{Result, Ok, Err}
 use Rattle.std.specs.Option.{ok_or}

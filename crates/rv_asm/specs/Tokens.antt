@@ -1,5 +1,5 @@
 -- The tokens of a line: its commas, and the words between blanks and commas.
--- The rule in words: docs/FORMATS.md, "Assembly text".
+-- The rule in words: docs/MACHINE.md, "Assembly text".
 use Rattle.std.specs.Prelude.{ℕ, Bool, true, false, ◌==◌, List, [], ◌∷◌, ◌++◌, codes, map, filter, flat_map, Option, Some, None}
 use Rattle.std.specs.List.{slice_split}
 use Rattle.std.specs.Option.{option_map}
@@ -17,6 +17,10 @@ further_tokens pieces = flat_map (λ p. codes "," ∷ words_of p) pieces
 abbrev pub tokens_in : List (List ℕ) → List (List ℕ)
 tokens_in [] = []
 tokens_in (p ∷ ps) = words_of p ++ further_tokens ps
+
+-- the most tokens of a line that says something: a verb, three operands and two commas
+abbrev pub max_tokens : ℕ
+max_tokens = 6
 
 -- the tokens of a line
 abbrev pub tokens_of : List ℕ → List (List ℕ)

@@ -3,7 +3,7 @@ use std::alloc::{AllocError, AllocFailed};
 
 /// What is wrong with a line of assembly text.
 ///
-/// docs/FORMATS.md, "Assembly text".
+/// docs/MACHINE.md, "Assembly text".
 #[derive(Clone, Copy, Debug, PartialEq, Eq)]
 pub enum AsmCause {
     BadHead,

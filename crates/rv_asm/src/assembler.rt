@@ -16,9 +16,9 @@ use std::alloc::Global;
 
 /// The image of a text, or why it has none.
 ///
-/// docs/FORMATS.md, "Assembly text".
+/// docs/MACHINE.md, "Assembly text".
 pub fn assemble(alloc: Global, text: &[u8]) -> Result<Image, AsmError>
-    requires { length text.now ≤ 4294967294 }
+    requires in_range { length text.now ≤ 4294967294 }
     ensures reads { IfOk result (λ image. AsmReads text.now image) }
     ensures faultless { OnOk result (asm_faults text.now ≡ []) }
     ensures refused { IfErr result (IsFirst (asm_faults text.now)) }

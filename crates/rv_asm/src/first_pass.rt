@@ -10,7 +10,7 @@ use tam_text::split_line;
 
 // The line behind the last LF.
 fn last_line(text: &[u8]) -> u32
-    requires { length text.now ≤ 4294967294 }
+    requires in_range { length text.now ≤ 4294967294 }
     ensures value { result ≡ last_line text.now }
 {
     let mut line = 1;
@@ -24,7 +24,7 @@ fn last_line(text: &[u8]) -> u32
 
 /// What the lines of a text say, where none has a fault.
 pub fn first_pass(alloc: Global, text: &[u8]) -> Result<Pass<'_>, AsmError>
-    requires { length text.now ≤ 4294967294 }
+    requires in_range { length text.now ≤ 4294967294 }
     ensures ok { IfOk result (λ pass. said pass ≡ said_in text.now) }
     ensures faultless { OnOk result (first_faults text.now ≡ []) }
     ensures refused { IfErr result (IsFirst (first_faults text.now)) }

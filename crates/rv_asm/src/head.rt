@@ -1,20 +1,14 @@
 // The head lines.
 ghost use Rattle.std.specs.Prelude.{◌≡◌, nat_le};
 ghost use Rattle.tam_word.specs.Numbers.{word_of};
-ghost use Rattle.rv_image.specs.ImageFiles.{is_stride};
+ghost use Rattle.rv_image.specs.ImageFiles.{is_stride, max_places};
 ghost use Rattle.rv_asm.specs.Head.{head_name, head_value, head_number, behind, is_body};
 ghost use Rattle.rv_asm.specs.Statements.{where_word};
 ghost use Rattle.rv_asm.specs.StatementView.{texts};
 
+use rv_image::{MAX_PLACES, is_stride};
 use tam_text::is_same;
 use tam_word::read_word;
-
-/// The least bytes of a frame.
-pub const MIN_STRIDE: u32 = 16;
-
-const MAX_STRIDE: u32 = 65_536;
-// The greatest number of params, and of results.
-const MAX_PLACES: u32 = 64;
 
 /// Which line with tokens comes next.
 #[derive(Clone, Copy, Debug, PartialEq, Eq)]
@@ -43,7 +37,7 @@ fn stride_of(text: &[u8]) -> Option<u32>
     ensures value { result ≡ where_word is_stride (word_of text.now) }
 {
     let stride = read_word(text)?;
-    if stride % 4 == 0 && (MIN_STRIDE..=MAX_STRIDE).contains(&stride) {
+    if is_stride(stride) {
         Some(stride)
     } else {
         None
@@ -51,7 +45,7 @@ fn stride_of(text: &[u8]) -> Option<u32>
 }
 
 fn places_of(text: &[u8]) -> Option<u32>
-    ensures value { result ≡ where_word (λ n. nat_le n MAX_PLACES) (word_of text.now) }
+    ensures value { result ≡ where_word (λ n. nat_le n max_places) (word_of text.now) }
 {
     let places = read_word(text)?;
     if places <= MAX_PLACES {

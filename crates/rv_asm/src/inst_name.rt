@@ -7,7 +7,7 @@ use rv_inst::{BranchName, IName, Inst, LoadName, RName, ShiftName, StoreName};
 
 /// The name of an instruction.
 ///
-/// docs/FORMATS.md, "Assembly text".
+/// docs/MACHINE.md, "Assembly text".
 pub fn name_text(inst: &Inst) -> &'static [u8]
     ensures value { result.now ≡ name_text inst.now }
 {

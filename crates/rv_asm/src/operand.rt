@@ -2,7 +2,7 @@
 
 /// An operand. Signed numbers are words, in which a negative one stands as its two's complement.
 ///
-/// docs/FORMATS.md, "Assembly text".
+/// docs/MACHINE.md, "Assembly text".
 #[derive(Clone, Copy, Debug, PartialEq, Eq)]
 pub enum Operand {
     Register(u32),

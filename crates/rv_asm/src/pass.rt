@@ -1,26 +1,24 @@
 // What the first pass keeps of the lines, and what a line adds.
 ghost use Rattle.std.specs.Prelude.{◌≡◌, ◌≤◌, [], ◌∷◌, ◌++◌, length, take, map, option_to_list, IfOk, IfNone, OnOk, Ok, None};
-ghost use Rattle.rv_image.specs.declared.image.TheConstants.{MAX_WORDS};
+ghost use Rattle.rv_image.specs.ImageFiles.{max_words};
 ghost use Rattle.rv_asm.specs.Tokens.{tokens_of};
 ghost use Rattle.rv_asm.specs.Head.{head_number};
 ghost use Rattle.rv_asm.specs.Statements.{statement_of, Label, Coded};
 ghost use Rattle.rv_asm.specs.Faults.{found, with_number, with_head, with_statement, with_body, with_tokens, is_head, faults_of_statement};
-ghost use Rattle.rv_asm.specs.Faults.{faults_of_tokens, faults_in_head, faults_in_body, faults_of_line, faults_at_end, nothing_said};
+ghost use Rattle.rv_asm.specs.Faults.{faults_of_tokens, head_faults, body_faults, faults_by, faults_of_line, faults_at_end, nothing_said};
 ghost use Rattle.rv_asm.specs.StatementView.{texts, seen, code_seen};
 ghost use Rattle.rv_asm.specs.PassView.{said, labels_seen, placed_seen};
 
 use crate::AsmCause;
 use crate::form::statement_of;
-use crate::head::{MIN_STRIDE, Next, behind, head_number, is_body};
+use crate::head::{Next, behind, head_number, is_body};
 use crate::jump::Jump;
 use crate::statement::{Code, Statement};
-use crate::tokens::{tokens_of, without_comment};
+use crate::tokens::first_tokens;
 use indexmap::IndexMap;
+use rv_image::{MAX_WORDS, MIN_STRIDE};
 use std::alloc::{AllocError, Global};
-use tam_text::are_good_bytes;
-
-/// The greatest number of words of an image.
-pub const MOST_WORDS: usize = 16_777_210;
+use tam_text::{are_good_bytes, without_comment};
 
 /// A word, or what goes to a label.
 #[derive(Clone, Copy)]
@@ -104,7 +102,7 @@ fn statement_cause(pass: &Pass<'_>, statement: &Statement<'_>) -> Option<AsmCaus
             }
         }
         Statement::Code(_) => {
-            if pass.words.len() >= MOST_WORDS {
+            if pass.words.len() >= MAX_WORDS as usize {
                 Some(AsmCause::TooMany)
             } else {
                 None
@@ -115,7 +113,7 @@ fn statement_cause(pass: &Pass<'_>, statement: &Statement<'_>) -> Option<AsmCaus
 
 // Puts in a label.
 fn put_label<'t>(pass: &mut Pass<'t>, line: u32, name: &'t [u8]) -> Result<(), AllocError>
-    requires few { length pass.old.words.items ≤ MAX_WORDS }
+    requires few { length pass.old.words.items ≤ max_words }
     requires absent { found name.now (labels_seen pass.old.labels.entries) ≡ None }
     ensures said { OnOk result (said pass.new ≡ with_statement line (Ok (Label name.now)) (said pass.old)) }
 {
@@ -161,7 +159,7 @@ fn put_statement<'t>(
     line: u32,
     statement: &Statement<'t>,
 ) -> Result<(), AllocError>
-    requires few { length pass.old.words.items ≤ MAX_WORDS }
+    requires few { length pass.old.words.items ≤ max_words }
     requires faultless { faults_of_statement (said pass.old) (Ok (seen statement.now)) ≡ [] }
     ensures said { OnOk result (said pass.new ≡ with_statement line (Ok (seen statement.now)) (said pass.old)) }
 {
@@ -177,7 +175,7 @@ fn statement_said<'t>(
     line: u32,
     statement: &Statement<'t>,
 ) -> Result<Option<AsmCause>, AllocError>
-    requires few { length pass.old.words.items ≤ MAX_WORDS }
+    requires few { length pass.old.words.items ≤ max_words }
     ensures cause { IfOk result (λ r. option_to_list r ≡ take 1 (faults_of_statement (said pass.old) (Ok (seen statement.now)))) }
     ensures said { IfOk result (λ r. IfNone r (said pass.new ≡ with_statement line (Ok (seen statement.now)) (said pass.old))) }
 {
@@ -194,7 +192,7 @@ fn statement_line<'t>(
     line: u32,
     tokens: &[&'t [u8]],
 ) -> Result<Option<AsmCause>, AllocError>
-    requires few { length pass.old.words.items ≤ MAX_WORDS }
+    requires few { length pass.old.words.items ≤ max_words }
     ensures cause { IfOk result (λ r. option_to_list r ≡ take 1 (faults_of_statement (said pass.old) (statement_of (texts tokens.now)))) }
     ensures said { IfOk result (λ r. IfNone r (said pass.new ≡ with_statement line (statement_of (texts tokens.now)) (said pass.old))) }
 {
@@ -211,10 +209,9 @@ fn body_line<'t>(
     line: &[u8],
     tokens: &[&'t [u8]],
 ) -> Result<Option<AsmCause>, AllocError>
-    requires few { length pass.old.words.items ≤ MAX_WORDS }
-    requires tokens { texts tokens.now ≡ tokens_of line.now }
-    ensures cause { IfOk result (λ r. option_to_list r ≡ take 1 (faults_in_body (said pass.old) line.now)) }
-    ensures said { IfOk result (λ r. IfNone r (said pass.new ≡ with_body number (tokens_of line.now) (said pass.old))) }
+    requires few { length pass.old.words.items ≤ max_words }
+    ensures cause { IfOk result (λ r. option_to_list r ≡ take 1 (body_faults (said pass.old) line.now (texts tokens.now))) }
+    ensures said { IfOk result (λ r. IfNone r (said pass.new ≡ with_body number (texts tokens.now) (said pass.old))) }
 {
     if !are_good_bytes(line) {
         return Ok(Some(AsmCause::BadLine));
@@ -234,8 +231,7 @@ fn is_head(next: Next, tokens: &[&[u8]]) -> bool
 
 // What is wrong with a line in the head.
 fn head_cause(next: Next, line: &[u8], tokens: &[&[u8]]) -> Option<AsmCause>
-    requires tokens { texts tokens.now ≡ tokens_of line.now }
-    ensures value { option_to_list result ≡ take 1 (faults_in_head next line.now) }
+    ensures value { option_to_list result ≡ take 1 (head_faults next line.now (texts tokens.now)) }
 {
     if !(are_good_bytes(without_comment(line)) && is_head(next, tokens)) {
         return Some(AsmCause::BadHead);
@@ -246,6 +242,27 @@ fn head_cause(next: Next, line: &[u8], tokens: &[&[u8]]) -> Option<AsmCause>
     None
 }
 
+// What is wrong with a line of these tokens; where nothing is, what they say is added.
+fn tokens_cause<'t>(
+    pass: &mut Pass<'t>,
+    number: u32,
+    line: &[u8],
+    tokens: &[&'t [u8]],
+) -> Result<Option<AsmCause>, AllocError>
+    requires few { length pass.old.words.items ≤ max_words }
+    ensures cause { IfOk result (λ r. option_to_list r ≡ take 1 (faults_by (said pass.old) line.now (texts tokens.now))) }
+    ensures said { IfOk result (λ r. IfNone r (said pass.new ≡ with_tokens number (texts tokens.now) (said pass.old))) }
+{
+    if is_body(pass.next) {
+        return body_line(pass, number, line, tokens);
+    }
+    if let Some(cause) = head_cause(pass.next, line, tokens) {
+        return Ok(Some(cause));
+    }
+    put_head(pass, tokens);
+    Ok(None)
+}
+
 /// What is wrong with a line; where nothing is, what it says is added.
 pub fn line_cause<'t>(
     alloc: Global,
@@ -253,19 +270,12 @@ pub fn line_cause<'t>(
     number: u32,
     line: &'t [u8],
 ) -> Result<Option<AsmCause>, AllocError>
-    requires few { length pass.old.words.items ≤ MAX_WORDS }
+    requires few { length pass.old.words.items ≤ max_words }
     ensures cause { IfOk result (λ r. option_to_list r ≡ take 1 (faults_of_line (said pass.old) line.now)) }
     ensures said { IfOk result (λ r. IfNone r (said pass.new ≡ with_tokens number (tokens_of line.now) (said pass.old))) }
 {
-    let tokens = tokens_of(alloc, line)?;
-    if is_body(pass.next) {
-        return body_line(pass, number, line, &tokens);
-    }
-    if let Some(cause) = head_cause(pass.next, line, &tokens) {
-        return Ok(Some(cause));
-    }
-    put_head(pass, &tokens);
-    Ok(None)
+    let tokens = first_tokens(alloc, line)?;
+    tokens_cause(pass, number, line, &tokens)
 }
 
 /// What is wrong at the end.

@@ -16,7 +16,7 @@ use tam_word::print_word;
 
 /// The assembly text of an image.
 ///
-/// docs/FORMATS.md, "Assembly text".
+/// docs/MACHINE.md, "Assembly text".
 pub fn print_asm(alloc: Global, image: &Image) -> Result<Vec<u8>, NoMemory>
     ensures value { IfOk result (λ text. text.items ≡ asm_text image.now) }
     ensures reads { IfOk result (λ text. AsmReads text.items image.now) }
@@ -199,9 +199,7 @@ fn push_signed(text: &mut Vec<u8>, word: u32) -> Result<(), NoMemory>
 fn push(text: &mut Vec<u8>, bytes: &[u8]) -> Result<(), NoMemory>
     ensures ok { OnOk result (text.new.items ≡ text.old.items ++ bytes.now) }
 {
-    if text.extend_from_slice(bytes).is_err() {
-        return Err(NoMemory);
-    }
+    text.extend_from_slice(bytes)?;
     Ok(())
 }
 

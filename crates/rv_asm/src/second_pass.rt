@@ -1,6 +1,6 @@
 // The second pass: the words one by one, up to the first whose label isn't there or too far.
 ghost use Rattle.std.specs.Prelude.{◌≡◌, ◌≤◌, [], length, map, IfOk, OnOk, IfErr};
-ghost use Rattle.rv_image.specs.declared.image.TheConstants.{MAX_WORDS};
+ghost use Rattle.rv_image.specs.ImageFiles.{max_words};
 ghost use Rattle.rv_asm.specs.Faults.{distance, word_at, second_pass, IsFirst};
 ghost use Rattle.rv_asm.specs.Reading.{words_at};
 ghost use Rattle.rv_asm.specs.Sound.{codes_of, all_there};
@@ -44,7 +44,7 @@ pub fn words_of(
     labels: &IndexMap<&[u8], u32>,
     placed: &[Placed<'_>],
 ) -> Result<Vec<u32>, AsmError>
-    requires few { length placed.now ≤ MAX_WORDS }
+    requires few { length placed.now ≤ max_words }
     ensures ok { IfOk result (λ words. all_there words.items ≡ words_at (labels_seen labels.now.entries) 0 (codes_of (map placed_seen placed.now))) }
     ensures len { IfOk result (λ words. length words.items ≡ length placed.now) }
     ensures faultless { OnOk result (second_pass (labels_seen labels.now.entries) 0 (map placed_seen placed.now) ≡ []) }

@@ -1,13 +1,15 @@
 // The tokens of a line.
-ghost use Rattle.std.specs.Prelude.{◌≡◌, ◌++◌, ◌∷◌, [], map, IfOk, OnOk, Some, None};
-ghost use Rattle.std.specs.List.{slice_split};
+ghost use Rattle.std.specs.Prelude.{◌≡◌, ◌+◌, ◌≤◌, length, take, IfOk};
 ghost use Rattle.std.specs.Option.{option_map};
-ghost use Rattle.tam_text.specs.Lines.{without_comment};
-ghost use Rattle.rv_asm.specs.Tokens.{is_comma, further_tokens, tokens_of, cut_at};
+ghost use Rattle.rv_asm.specs.Tokens.{is_comma, max_tokens, tokens_of, cut_at};
+ghost use Rattle.rv_asm.specs.Splitting.{is_inside, word_len, first_token};
 ghost use Rattle.rv_asm.specs.StatementView.{texts, parts};
 
 use std::alloc::{AllocError, Global};
-use tam_text::words_of;
+use tam_text::is_blank;
+
+// The most tokens of a line that says something.
+const MAX_TOKENS: usize = 6;
 
 /// What stands before the first such byte, and what stands behind it.
 pub fn cut_at(at: u8, bytes: &[u8]) -> Option<(&[u8], &[u8])>
@@ -21,66 +23,70 @@ pub fn cut_at(at: u8, bytes: &[u8]) -> Option<(&[u8], &[u8])>
     None
 }
 
-/// A line without its comment.
-pub fn without_comment(line: &[u8]) -> &[u8]
-    ensures value { result.now ≡ without_comment line.now }
-{
-    for (i, byte) in line.iter().enumerate() {
-        if *byte == b'#' {
-            return &line[..i];
-        }
-    }
-    line
-}
-
 fn is_comma(byte: u8) -> bool
     ensures value { result ≡ is_comma byte }
 {
     byte == b','
 }
 
-// What stands between commas.
-fn pieces_of(alloc: Global, line: &[u8]) -> Result<Vec<&[u8]>, AllocError>
-    ensures value { IfOk result (λ pieces. texts pieces.items ≡ slice_split is_comma line.now) }
+// Whether a byte stands inside a word.
+fn is_inside(byte: u8) -> bool
+    ensures value { result ≡ is_inside byte }
 {
-    line.split(|byte| is_comma(*byte)).collect(alloc)
+    !(is_blank(byte) || is_comma(byte) || byte == b'#')
 }
 
-// Appends tokens.
-fn append<'t>(tokens: &mut Vec<&'t [u8]>, more: &[&'t [u8]]) -> Result<(), AllocError>
-    ensures ok { OnOk result (texts tokens.new.items ≡ texts tokens.old.items ++ texts more.now) }
+// How many bytes inside a word come first.
+fn word_len(bytes: &[u8]) -> usize
+    ensures value { result ≡ word_len bytes.now }
+    ensures in_range { result ≤ length bytes.now }
 {
-    tokens.extend_from_slice(more)
-}
-
-// Appends a comma and the words behind it, for each piece.
-fn push_further<'t>(
-    alloc: Global,
-    tokens: &mut Vec<&'t [u8]>,
-    pieces: &[&'t [u8]],
-) -> Result<(), AllocError>
-    ensures ok { OnOk result (texts tokens.new.items ≡ texts tokens.old.items ++ further_tokens (texts pieces.now)) }
-{
-    let mut rest = pieces;
-    while let [piece, after @ ..] = rest {
-        tokens.push(b",")?;
-        append(tokens, &words_of(alloc, piece)?)?;
+    let mut len = 0;
+    let mut rest = bytes;
+    while let [byte, after @ ..] = rest {
+        if !is_inside(*byte) {
+            return len;
+        }
+        len += 1;
         rest = after;
     }
-    Ok(())
+    len
 }
 
-/// The tokens of a line.
-pub fn tokens_of(alloc: Global, line: &[u8]) -> Result<Vec<&[u8]>, AllocError>
-    ensures value { IfOk result (λ tokens. texts tokens.items ≡ tokens_of line.now) }
+// The first token of a line and what stands behind it; none before a comment or the end.
+fn split_token(line: &[u8]) -> Option<(&[u8], &[u8])>
+    ensures value { option_map parts result ≡ first_token line.now }
 {
-    let pieces = pieces_of(alloc, without_comment(line))?;
-    match pieces.as_slice() {
-        [] => Ok(Vec::new(alloc)),
-        [first, others @ ..] => {
-            let mut tokens = words_of(alloc, first)?;
-            push_further(alloc, &mut tokens, others)?;
-            Ok(tokens)
+    let mut rest = line;
+    while let [byte, after @ ..] = rest {
+        if !is_blank(*byte) {
+            if is_comma(*byte) {
+                return Some((&rest[..1], after));
+            }
+            if *byte == b'#' {
+                return None;
+            }
+            return Some(rest.split_at(word_len(rest)));
         }
+        rest = after;
     }
+    None
+}
+
+/// The first tokens of a line: all of them, or one more than any line that says something has.
+pub fn first_tokens(alloc: Global, line: &[u8]) -> Result<Vec<&[u8]>, AllocError>
+    ensures value { IfOk result (λ tokens. texts tokens.items ≡ take (max_tokens + 1) (tokens_of line.now)) }
+{
+    let mut tokens = Vec::new(alloc);
+    let mut rest = line;
+    let mut left = MAX_TOKENS + 1;
+    while left > 0 {
+        let Some((token, after)) = split_token(rest) else {
+            return Ok(tokens);
+        };
+        tokens.push(token)?;
+        rest = after;
+        left -= 1;
+    }
+    Ok(tokens)
 }

@@ -67,7 +67,7 @@ pub fn verb_of(inst: &Inst) -> Verb
 
 /// How a verb is written.
 ///
-/// docs/FORMATS.md, "Assembly text".
+/// docs/MACHINE.md, "Assembly text".
 pub fn verb_text(verb: Verb) -> &'static [u8]
     ensures value { result.now ≡ verb_text verb }
 {

@@ -5,8 +5,8 @@ use Rattle.std.proofs.lemmas.List.{length-drop}
 use Rattle.rv_inst.specs.Harts.{read_at, bytes_of}
 use Rattle.rv_inst.specs.Images.{Image, bytes_of_words}
 use Rattle.rv_inst.proofs.Bytes.{length-bytes_of_words}
-use Rattle.rv_image.specs.declared.image.TheConstants.{MAX_WORDS, MAX_PLACES}
-use Rattle.rv_image.specs.declared.reader.TheConstants.{MAGIC, VERSION, HEADER_BYTES}
+use Rattle.rv_image.specs.ImageFiles.{max_words, max_places}
+use Rattle.rv_image.specs.ImageFiles.{magic_number, format_version, header_bytes}
 use Rattle.rv_image.specs.declared.image_error.ImageCause.{ImageCause}
 use Rattle.rv_image.specs.declared.image_error.ImageCause.TheVariants.{Magic, Version, Size, Stride, Params, Results}
 use Rattle.rv_image.specs.ImageFiles.{is_stride, IsImage, header, image_bytes, found_if, is_bad_count, fault_of}
@@ -35,20 +35,20 @@ holds true h = refl
 holds false h = absurd cc
 
 -- a count that isn't bad
-good-count : (size count : ℕ) → is_bad_count size count ≡ false → (0 < count) × (count ≤ MAX_WORDS) × (size ≡ HEADER_BYTES + 4 * count)
+good-count : (size count : ℕ) → is_bad_count size count ≡ false → (0 < count) × (count ≤ max_words) × (size ≡ header_bytes + 4 * count)
 good-count size count h = (grind (arith, tests), grind (arith, tests), grind (arith, tests))
 
 -- what the header of a file without a fault says
 record IsHeader (bytes : List ℕ) : Type 0 where
-  whole : HEADER_BYTES ≤ length bytes
-  magic : read_at bytes 0 4 ≡ MAGIC
-  version : read_at bytes 4 4 ≡ VERSION
+  whole : header_bytes ≤ length bytes
+  magic : read_at bytes 0 4 ≡ magic_number
+  version : read_at bytes 4 4 ≡ format_version
   some_word : 0 < read_at bytes 8 4
-  words : read_at bytes 8 4 ≤ MAX_WORDS
-  size : length bytes ≡ HEADER_BYTES + 4 * read_at bytes 8 4
+  words : read_at bytes 8 4 ≤ max_words
+  size : length bytes ≡ header_bytes + 4 * read_at bytes 8 4
   stride : is_stride (read_at bytes 12 4) ≡ true
-  params : read_at bytes 16 4 ≤ MAX_PLACES
-  results : read_at bytes 20 4 ≤ MAX_PLACES
+  params : read_at bytes 16 4 ≤ max_places
+  results : read_at bytes 20 4 ≤ max_places
 
 -- it says so
 header-said : (bytes : List ℕ) → fault_of bytes ≡ None → IsHeader bytes
@@ -78,7 +78,7 @@ abbrev pub image_with : List ℕ → List ℕ → Image
 image_with bytes words = record { stride = read_at bytes 12 4; params = read_at bytes 16 4; results = read_at bytes 20 4; words = words }
 
 -- six words before others
-six : (bs : List ℕ) → AreBelow 256 bs → HEADER_BYTES ≤ length bs
+six : (bs : List ℕ) → AreBelow 256 bs → header_bytes ≤ length bs
     → bytes_of_words (read_at bs 0 4 ∷ read_at bs 4 4 ∷ read_at bs 8 4 ∷ read_at bs 12 4 ∷ read_at bs 16 4 ∷ read_at bs 20 4 ∷ []) ++ drop 24 bs ≡ bs
 six bs h l =
     let a : bs ≡ bytes_of 4 (read_at bs 0 4) ++ drop 4 bs = next-word bs 0 h (omega arith) in
@@ -102,17 +102,17 @@ unfolding image_bytes
 image-read bytes words b h e =
     let s = header-said bytes h in
     let m : 4 * length words ≡ length bytes - 24 = sym (length-bytes_of_words words) ∙ (ap length e ∙ length-drop 24 bytes) in
-    let n : read_at bytes 8 4 ≡ length words = let z : length bytes ≡ HEADER_BYTES + 4 * read_at bytes 8 4 = s.size in omega arith in
+    let n : read_at bytes 8 4 ≡ length words = let z : length bytes ≡ header_bytes + 4 * read_at bytes 8 4 = s.size in omega arith in
     let w1 : 0 < length words = let z : 0 < read_at bytes 8 4 = s.some_word in omega arith in
-    let w2 : length words ≤ MAX_WORDS = let z : read_at bytes 8 4 ≤ MAX_WORDS = s.words in omega arith in
+    let w2 : length words ≤ max_words = let z : read_at bytes 8 4 ≤ max_words = s.words in omega arith in
     let p : filed (read_at bytes 0 4) (read_at bytes 4 4) (read_at bytes 8 4) (read_at bytes 12 4) (read_at bytes 16 4) (read_at bytes 20 4) (drop 24 bytes)
     ≡ bytes = six bytes b s.whole in
     let q : bytes ≡ image_bytes (image_with bytes words) =
     sym p
     ∙ (ap (λ (x : ℕ). filed x (read_at bytes 4 4) (read_at bytes 8 4) (read_at bytes 12 4) (read_at bytes 16 4) (read_at bytes 20 4) (drop 24 bytes)) s.magic
-    ∙ (ap (λ (x : ℕ). filed MAGIC x (read_at bytes 8 4) (read_at bytes 12 4) (read_at bytes 16 4) (read_at bytes 20 4) (drop 24 bytes)) s.version
-    ∙ (ap (λ (x : ℕ). filed MAGIC VERSION x (read_at bytes 12 4) (read_at bytes 16 4) (read_at bytes 20 4) (drop 24 bytes)) n
-    ∙ ap (λ (x : List ℕ). filed MAGIC VERSION (length words) (read_at bytes 12 4) (read_at bytes 16 4) (read_at bytes 20 4) x) (sym e)))) in
+    ∙ (ap (λ (x : ℕ). filed magic_number x (read_at bytes 8 4) (read_at bytes 12 4) (read_at bytes 16 4) (read_at bytes 20 4) (drop 24 bytes)) s.version
+    ∙ (ap (λ (x : ℕ). filed magic_number format_version x (read_at bytes 12 4) (read_at bytes 16 4) (read_at bytes 20 4) (drop 24 bytes)) n
+    ∙ ap (λ (x : List ℕ). filed magic_number format_version (length words) (read_at bytes 12 4) (read_at bytes 16 4) (read_at bytes 20 4) x) (sym e)))) in
     (record { stride = s.stride; params = s.params; results = s.results; some_word = w1; words = w2 }, q)
 
 -- the image of numbers that the header says
@@ -126,7 +126,7 @@ pub no-fault-image : (bytes : List ℕ) → AreBelow (2 ^ 8) bytes → fault_of 
 no-fault-image bytes b h =
     let s = header-said bytes h in
     let c : AreBelow 256 (drop 24 bytes) = λ k. rw get_or-drop (b (24 + k)) in
-    let z : length bytes ≡ HEADER_BYTES + 4 * read_at bytes 8 4 = s.size in
+    let z : length bytes ≡ header_bytes + 4 * read_at bytes 8 4 = s.size in
     let m : length (drop 24 bytes) ≡ 4 * read_at bytes 8 4 = simp length-drop (omega arith) in
     let words : List ℕ = words_of (read_at bytes 8 4) (drop 24 bytes) in
     let r = image-read bytes words b h (words_of-back (read_at bytes 8 4) (drop 24 bytes) c m) in
@@ -142,10 +142,10 @@ stride-below s h = grind (arith, tests)
 file-words : (i : Image) → IsImage i → AreBelow (2 ^ 32) i.words → AreBelow (2 ^ 32) (header i ++ i.words)
 file-words i r h zero = omega arith
 file-words i r h (suc zero) = omega arith
-file-words i r h (suc (suc zero)) = let z : length i.words ≤ MAX_WORDS = r.words in omega arith
+file-words i r h (suc (suc zero)) = let z : length i.words ≤ max_words = r.words in omega arith
 file-words i r h (suc (suc (suc zero))) = let z : i.stride ≤ 65536 = stride-below i.stride r.stride in omega arith
-file-words i r h (suc (suc (suc (suc zero)))) = let z : i.params ≤ MAX_PLACES = r.params in omega arith
-file-words i r h (suc (suc (suc (suc (suc zero))))) = let z : i.results ≤ MAX_PLACES = r.results in omega arith
+file-words i r h (suc (suc (suc (suc zero)))) = let z : i.params ≤ max_places = r.params in omega arith
+file-words i r h (suc (suc (suc (suc (suc zero))))) = let z : i.results ≤ max_places = r.results in omega arith
 file-words i r h (suc (suc (suc (suc (suc (suc k)))))) = h k
 
 -- nothing is found where the test fails and nothing is found behind it
@@ -161,7 +161,7 @@ no-more : (x y : ℕ) → y ≤ x → nat_lt x y ≡ false
 no-more x y h = grind (arith, tests)
 
 -- a count that is right
-right-count : (size count : ℕ) → 0 < count → count ≤ MAX_WORDS → size ≡ HEADER_BYTES + 4 * count → is_bad_count size count ≡ false
+right-count : (size count : ℕ) → 0 < count → count ≤ max_words → size ≡ header_bytes + 4 * count → is_bad_count size count ≡ false
 right-count size count p q r = grind (arith, tests)
 
 -- the file of an image has no fault
@@ -173,11 +173,11 @@ images-pass i r =
     let l : length bytes ≡ 4 * length ws = length-bytes_of_words ws in
     let m : length bytes ≡ 24 + 4 * length i.words = omega arith in
     let zs : i.stride ≤ 65536 = stride-below i.stride r.stride in
-    let zw : length i.words ≤ MAX_WORDS = r.words in
-    let zp : i.params ≤ MAX_PLACES = r.params in
-    let zr : i.results ≤ MAX_PLACES = r.results in
-    let a : read_at bytes 0 4 ≡ MAGIC = word-there ws 0 (omega arith) (omega arith) in
-    let b : read_at bytes 4 4 ≡ VERSION = word-there ws 1 (omega arith) (omega arith) in
+    let zw : length i.words ≤ max_words = r.words in
+    let zp : i.params ≤ max_places = r.params in
+    let zr : i.results ≤ max_places = r.results in
+    let a : read_at bytes 0 4 ≡ magic_number = word-there ws 0 (omega arith) (omega arith) in
+    let b : read_at bytes 4 4 ≡ format_version = word-there ws 1 (omega arith) (omega arith) in
     let c : read_at bytes 8 4 ≡ length i.words = word-there ws 2 (omega arith) (omega arith) in
     let d : read_at bytes 12 4 ≡ i.stride = word-there ws 3 (omega arith) (omega arith) in
     let e : read_at bytes 16 4 ≡ i.params = word-there ws 4 (omega arith) (omega arith) in
@@ -186,8 +186,8 @@ images-pass i r =
     ap (λ (x : ℕ). is_bad_count (length bytes) x) c ∙ right-count (length bytes) (length i.words) r.some_word zw m in
     let s : not (is_stride (read_at bytes 12 4)) ≡ false = ap (λ (x : ℕ). not (is_stride x)) d ∙ ap not r.stride in
     passes _ 8 Size _ (no-more (length bytes) 24 (omega arith)) (passes _ 0 Magic _ (same _ _ a) (passes _ 4 Version _ (same _ _ b) (passes _ 8 Size _ n
-    (passes _ 12 Stride _ s (passes _ 16 Params _ (no-more MAX_PLACES (read_at bytes 16 4) (omega arith))
-    (passes _ 20 Results None (no-more MAX_PLACES (read_at bytes 20 4) (omega arith)) refl))))))
+    (passes _ 12 Stride _ s (passes _ 16 Params _ (no-more max_places (read_at bytes 16 4) (omega arith))
+    (passes _ 20 Results None (no-more max_places (read_at bytes 20 4) (omega arith)) refl))))))
 
 -- images with the same numbers are the same
 image-eq : (i j : Image) → i.stride ≡ j.stride → i.params ≡ j.params → i.results ≡ j.results → i.words ≡ j.words → i ≡ j

@@ -1,5 +1,5 @@
 -- The laws of image files: an image has one file, and a file is that of one image or has a fault.
--- The rules in words: docs/FORMATS.md, "Image file".
+-- The rules in words: docs/MACHINE.md, "Image file".
 use Rattle.std.specs.Prelude.{◌≡◌, ℕ, ◌^◌, ◌<◌, List, None, slice_index}
 use Rattle.rv_inst.specs.Images.{Image}
 use Rattle.rv_image.specs.ImageFiles.{IsImage, image_bytes, fault_of}

@@ -11,7 +11,7 @@ pub mod laws;
 mod reader;
 mod writer;
 
-pub use image::Image;
+pub use image::{Image, MAX_PLACES, MAX_WORDS, MIN_STRIDE, is_stride};
 pub use image_error::{ImageCause, ImageError};
 pub use reader::read_image;
 pub use writer::write_image;

@@ -1,23 +1,23 @@
 // An image from its file.
 ghost use Rattle.std.specs.Prelude.{◌≡◌, ◌%◌, IfOk, IfErr, None, length};
 ghost use Rattle.rv_inst.specs.Images.{bytes_of_words};
-ghost use Rattle.rv_image.specs.ImageFiles.{ReadsImage, fault_of, is_stride};
+ghost use Rattle.rv_image.specs.ImageFiles.{ReadsImage, fault_of};
 
-use crate::image::{MAX_PLACES, MAX_STRIDE, MAX_WORDS, MIN_STRIDE};
+use crate::image::{MAX_PLACES, MAX_WORDS, is_stride};
 use crate::{Image, ImageCause, ImageError};
 use rv_inst::word_at;
 use std::alloc::Global;
 
 /// The bytes `TAMI`.
 pub const MAGIC: u32 = 0x494d_4154;
-
+/// The version of the format.
 pub const VERSION: u32 = 1;
-
+/// The bytes before the words.
 pub const HEADER_BYTES: usize = 24;
 
 /// The image of these bytes, or the first fault of a file that is none.
 ///
-/// docs/FORMATS.md, "Image file".
+/// docs/MACHINE.md, "Image file".
 pub fn read_image(alloc: Global, bytes: &[u8]) -> Result<Image, ImageError>
     ensures value { ReadsImage bytes.now result }
 {
@@ -29,7 +29,7 @@ pub fn read_image(alloc: Global, bytes: &[u8]) -> Result<Image, ImageError>
 
 // The image of a file without a fault.
 fn read_faultless(alloc: Global, bytes: &[u8]) -> Result<Image, ImageError>
-    requires { fault_of bytes.now ≡ None }
+    requires faultless { fault_of bytes.now ≡ None }
     ensures value { ReadsImage bytes.now result }
 {
     let (stride, params, results) = (word_at(bytes, 12), word_at(bytes, 16), word_at(bytes, 20));
@@ -67,27 +67,17 @@ fn fault_of(bytes: &[u8]) -> Option<(u32, ImageCause)>
     None
 }
 
-fn is_stride(stride: u32) -> bool
-    ensures value { result ≡ is_stride stride }
-{
-    stride % 4 == 0 && stride >= MIN_STRIDE && stride <= MAX_STRIDE
-}
-
 // The words whose bytes these are, which are whole words.
 fn read_words(alloc: Global, bytes: &[u8]) -> Result<Vec<u32>, ImageError>
-    requires { length bytes.now % 4 ≡ 0 }
+    requires whole { length bytes.now % 4 ≡ 0 }
     ensures value { IfOk result (λ words. bytes_of_words words.items ≡ bytes.now) }
     ensures err { IfErr result (λ error. error ≡ ImageError.NoMemory) }
 {
-    let Ok(mut words) = Vec::with_capacity(alloc, bytes.len() / 4) else {
-        return Err(ImageError::NoMemory);
-    };
+    let mut words = Vec::with_capacity(alloc, bytes.len() / 4)?;
     let mut rest = bytes;
     while rest.len() >= 4 {
         let (piece, after) = rest.split_at(4);
-        if words.push(word_at(piece, 0)).is_err() {
-            return Err(ImageError::NoMemory);
-        }
+        words.push(word_at(piece, 0))?;
         rest = after;
     }
     Ok(words)

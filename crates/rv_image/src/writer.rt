@@ -10,7 +10,7 @@ use tam_edge::NoMemory;
 
 /// The bytes of the image's file.
 ///
-/// docs/FORMATS.md, "Image file".
+/// docs/MACHINE.md, "Image file".
 #[tactic(auto, unfolding(crate::specs::ImageFiles::image_bytes))]
 pub fn write_image(alloc: Global, image: &Image) -> Result<Vec<u8>, NoMemory>
     ensures value { IfOk result (λ bytes. bytes.items ≡ image_bytes image.now) }
@@ -25,9 +25,7 @@ pub fn write_image(alloc: Global, image: &Image) -> Result<Vec<u8>, NoMemory>
         image.results(),
     ];
     let size = HEADER_BYTES + 4 * image.words().len();
-    let Ok(mut bytes) = Vec::with_capacity(alloc, size) else {
-        return Err(NoMemory);
-    };
+    let mut bytes = Vec::with_capacity(alloc, size)?;
     append_words(&header, &mut bytes)?;
     image.append_words(&mut bytes)?;
     Ok(bytes)

@@ -6,7 +6,7 @@ use Rattle.tam_word.proofs.Tests.{number-eq}
 use Rattle.rv_inst.specs.declared.i_name.IName.{IName}
 use Rattle.rv_inst.specs.declared.opcode.Opcode.{Opcode}
 use Rattle.rv_inst.specs.declared.opcode.Opcode.TheVariants as opcode
-use Rattle.rv_inst.specs.declared.inst.TheConstants.{JALR_FUNCT3, FENCE_FUNCT3, ECALL, EBREAK}
+use Rattle.rv_inst.specs.Rows.{jalr_funct, fence_funct, ecall_word, ebreak_word}
 use Rattle.rv_inst.specs.declared.inst.Inst.{Inst}
 use Rattle.rv_inst.specs.declared.inst.Inst.TheVariants.{R, I, Shift, Load, Store, Branch, Lui, Auipc, Jal, Jalr, Fence, Ecall, Ebreak}
 use Rattle.rv_inst.specs.Fields.{part, rd_of, rs1_of, rs2_of, i_imm, s_imm, b_off, j_off}
@@ -65,15 +65,15 @@ module _ (w : ℕ) (h : w < 2 ^ 32) where
 
   -- calls
   system-holds : Holds w (of_system w)
-  system-holds = go (w == ECALL) refl
+  system-holds = go (w == ecall_word) refl
     where
-      second : (t : Bool) → (w == EBREAK) ≡ t → Holds w (elim t [ true ↦ Some Ebreak | false ↦ None ])
-      second true p = one w Ebreak (tt, sym (number-eq w EBREAK p))
+      second : (t : Bool) → (w == ebreak_word) ≡ t → Holds w (elim t [ true ↦ Some Ebreak | false ↦ None ])
+      second true p = one w Ebreak (tt, sym (number-eq w ebreak_word p))
       second false p = no-one w
 
-      go : (t : Bool) → (w == ECALL) ≡ t → Holds w (elim t [ true ↦ Some Ecall | false ↦ elim (w == EBREAK) [ true ↦ Some Ebreak | false ↦ None ] ])
-      go true p = one w Ecall (tt, sym (number-eq w ECALL p))
-      go false p = second (w == EBREAK) refl
+      go : (t : Bool) → (w == ecall_word) ≡ t → Holds w (elim t [ true ↦ Some Ecall | false ↦ elim (w == ebreak_word) [ true ↦ Some Ebreak | false ↦ None ] ])
+      go true p = one w Ecall (tt, sym (number-eq w ecall_word p))
+      go false p = second (w == ebreak_word) refl
 
   -- any
   said-holds : (o : Opcode) → code o ≡ part w 0 7 → Holds w (said w o)
@@ -81,7 +81,7 @@ module _ (w : ℕ) (h : w < 2 ^ 32) where
       named w (λ n. Load n (rd_of w) (rs1_of w) (i_imm w)) (load_name_of (part w 12 3))
       (λ n p. ((part-below w 7 5, part-below w 15 5, i_imm-signed w), i-whole w _ _ h (load_funct-found (part w 12 3) n p) o))
   said-holds opcode.MiscMem o =
-      where-so w (part w 12 3) FENCE_FUNCT3 (Fence (rd_of w) (rs1_of w) (part w 20 12))
+      where-so w (part w 12 3) fence_funct (Fence (rd_of w) (rs1_of w) (part w 20 12))
       (λ e. ((part-below w 7 5, part-below w 15 5, part-below w 20 12), i-bits w (part w 20 12) _ _ h (omega arith) (sym e) o))
   said-holds opcode.OpImm o = immediate-holds o (i_name_of (part w 12 3)) refl
   said-holds opcode.Auipc o = one w (Auipc (rd_of w) (part w 12 20)) ((part-below w 7 5, part-below w 12 20), u-whole w _ h o)
@@ -98,7 +98,7 @@ module _ (w : ℕ) (h : w < 2 ^ 32) where
       (λ n p. let s = b_off-signed w in
       ((part-below w 15 5, part-below w 20 5, s.0, s.1), b-whole w _ _ h (branch_funct-found (part w 12 3) n p) o))
   said-holds opcode.Jalr o =
-      where-so w (part w 12 3) JALR_FUNCT3 (Jalr (rd_of w) (rs1_of w) (i_imm w))
+      where-so w (part w 12 3) jalr_funct (Jalr (rd_of w) (rs1_of w) (i_imm w))
       (λ e. ((part-below w 7 5, part-below w 15 5, i_imm-signed w), i-whole w _ _ h (sym e) o))
   said-holds opcode.Jal o =
       let s = j_off-signed w in one w (Jal (rd_of w) (j_off w)) ((part-below w 7 5, s.0, s.1), j-whole w _ h o)

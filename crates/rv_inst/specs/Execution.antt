@@ -1,5 +1,5 @@
 -- What a step does: what each instruction gives, and the traps.
--- The rules in words: docs/FORMATS.md, "RV32IM".
+-- The rules in words: docs/MACHINE.md, "RV32IM".
 use Rattle.std.specs.Prelude.{ℕ, ◌+◌, ◌*◌, ◌/◌, ◌%◌, ◌^◌, Bool, true, false, not, ◌==◌, nat_lt, nat_le, List, [], ◌∷◌, length, int_lt, ◌*ℤ◌, pos}
 use Rattle.std.proofs.Common.{to_z, of_z, w32, w64}
 use Rattle.tam_word.specs.declared.op.Op.TheVariants.{Add, Sub, Mul, Div, Divu, Rem, Remu, And, Or, Xor, Sll, Srl, Sra, Slt, Sltu}

@@ -1,5 +1,5 @@
 -- The machine of RV32IM as a value: registers, pc and memory.
--- The rules in words: docs/FORMATS.md, "RV32IM".
+-- The rules in words: docs/MACHINE.md, "RV32IM".
 use Rattle.std.specs.Prelude.{ℕ, zero, suc, ◌+◌, ◌*◌, ◌/◌, ◌%◌, List, [], ◌∷◌, ◌++◌, take, drop, slice_index, slice_set}
 use Rattle.tam_word.specs.Words.{wrapped}
 use Rattle.rv_inst.specs.declared.trap_cause.TrapCause.{TrapCause}

@@ -1,5 +1,5 @@
 -- Machine code, and the machine that it starts.
--- The rules in words: docs/FORMATS.md, "RV32IM" and "Image file".
+-- The rules in words: docs/MACHINE.md, "RV32IM" and "Image file".
 use Rattle.std.specs.Prelude.{ℕ, ◌*◌, List, ◌++◌, flat_map, replicate}
 use Rattle.rv_inst.specs.Harts.{Hart, bytes_of}
 

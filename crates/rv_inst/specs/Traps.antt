@@ -1,5 +1,5 @@
 -- The names of the causes of traps, as they stand in every text.
--- The rules in words: docs/FORMATS.md, "RV32IM".
+-- The rules in words: docs/MACHINE.md, "RV32IM".
 use Rattle.std.specs.Prelude.{ℕ, List, codes}
 use Rattle.rv_inst.specs.declared.trap_cause.TrapCause.{TrapCause}
 use Rattle.rv_inst.specs.declared.trap_cause.TrapCause.TheVariants.{FetchAddress, JumpAlign, Unknown, LoadAddress, StoreAddress, LoadAlign, StoreAlign, Break}

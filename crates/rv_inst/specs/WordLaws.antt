@@ -1,5 +1,5 @@
 -- The laws of words and instructions: they determine each other.
--- The rules in words: docs/FORMATS.md, "RV32IM".
+-- The rules in words: docs/MACHINE.md, "RV32IM".
 use Rattle.std.specs.Prelude.{ℕ, ◌^◌, ◌≡◌, ◌≢◌, ◌<◌, List, [], ◌∷◌}
 use Rattle.rv_inst.specs.declared.inst.Inst.{Inst}
 use Rattle.rv_inst.specs.Instructions.{encoded, decoded}

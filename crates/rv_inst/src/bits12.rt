@@ -51,8 +51,8 @@ impl Bits12 {
 
     /// The number of a field of 12 bits.
     pub(crate) fn of_field(field: u32) -> Bits12
-        requires { field < 2 ^ 12 }
-        ensures { result ≡ field }
+        requires in_range { field < 2 ^ 12 }
+        ensures value { result ≡ field }
     {
         Bits12 { number: field }
     }

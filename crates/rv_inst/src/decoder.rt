@@ -11,7 +11,7 @@ use crate::{Bits12, BranchName, IName, Imm20, Inst, LoadName, RName, ShiftName, 
 
 /// The instruction whose word this is, or `None` where there is none.
 ///
-/// docs/FORMATS.md, "RV32IM".
+/// docs/MACHINE.md, "RV32IM".
 pub fn decode(word: u32) -> Option<Inst>
     ensures exact { IsDecoded word result }
     ensures value { option_to_list result ≡ decoded word }

@@ -10,7 +10,7 @@ use crate::{Inst, Reg};
 
 /// The word of an instruction.
 ///
-/// docs/FORMATS.md, "RV32IM".
+/// docs/MACHINE.md, "RV32IM".
 pub fn encode(inst: &Inst) -> u32
     ensures value { result ≡ encoded inst.now }
     ensures decodes { decoded result ≡ inst.now ∷ [] }

@@ -56,8 +56,8 @@ impl Imm12 {
 
     /// The number whose low bits a field of 12 bits has.
     pub(crate) fn of_field(field: u32) -> Imm12
-        requires { field < 2 ^ 12 }
-        ensures { result ≡ extended 12 field }
+        requires in_range { field < 2 ^ 12 }
+        ensures value { result ≡ extended 12 field }
     {
         let word = if field < 0x800 {
             field

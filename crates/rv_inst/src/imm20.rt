@@ -51,8 +51,8 @@ impl Imm20 {
 
     /// The number of a field of 20 bits.
     pub(crate) fn of_field(field: u32) -> Imm20
-        requires { field < 2 ^ 20 }
-        ensures { result ≡ field }
+        requires in_range { field < 2 ^ 20 }
+        ensures value { result ≡ field }
     {
         Imm20 { number: field }
     }

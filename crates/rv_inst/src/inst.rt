@@ -17,7 +17,7 @@ pub const EBREAK: u32 = 0x0010_0073;
 
 /// An instruction of RV32IM. Each field keeps its range in its type, so that each instruction has a word.
 ///
-/// docs/FORMATS.md, "RV32IM".
+/// docs/MACHINE.md, "RV32IM".
 #[derive(Clone, Copy, Debug, PartialEq, Eq)]
 pub enum Inst {
     R {

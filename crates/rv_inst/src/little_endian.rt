@@ -4,7 +4,7 @@ ghost use Rattle.rv_inst.specs.Harts.{little_endian, read_at, bytes_of};
 
 /// The byte at an address.
 pub fn byte_at(bytes: &[u8], at: usize) -> u32
-    requires { at + 1 ≤ length bytes.now }
+    requires in_range { at + 1 ≤ length bytes.now }
     ensures value { result ≡ read_at bytes.now at 1 }
     ensures in_range { result < 2 ^ 8 }
 {
@@ -16,7 +16,7 @@ pub fn byte_at(bytes: &[u8], at: usize) -> u32
 
 /// The number of the two bytes at an address.
 pub fn half_at(bytes: &[u8], at: usize) -> u32
-    requires { at + 2 ≤ length bytes.now }
+    requires in_range { at + 2 ≤ length bytes.now }
     ensures value { result ≡ read_at bytes.now at 2 }
     ensures in_range { result < 2 ^ 16 }
 {
@@ -28,7 +28,7 @@ pub fn half_at(bytes: &[u8], at: usize) -> u32
 
 /// The word of the four bytes at an address.
 pub fn word_at(bytes: &[u8], at: usize) -> u32
-    requires { at + 4 ≤ length bytes.now }
+    requires in_range { at + 4 ≤ length bytes.now }
     ensures value { result ≡ read_at bytes.now at 4 }
 {
     match &bytes[at..at + 4] {

@@ -61,7 +61,7 @@ impl Off13 {
     pub(crate) fn of_field(field: u32) -> Off13
         requires in_range { field < 2 ^ 13 }
         requires even { field % 2 ≡ 0 }
-        ensures { result ≡ extended 13 field }
+        ensures value { result ≡ extended 13 field }
     {
         let word = if field < 0x1000 {
             field

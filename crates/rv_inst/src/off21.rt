@@ -61,7 +61,7 @@ impl Off21 {
     pub(crate) fn of_field(field: u32) -> Off21
         requires in_range { field < 2 ^ 21 }
         requires even { field % 2 ≡ 0 }
-        ensures { result ≡ extended 21 field }
+        ensures value { result ≡ extended 21 field }
     {
         let word = if field < 0x10_0000 {
             field

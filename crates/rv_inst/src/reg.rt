@@ -51,8 +51,8 @@ impl Reg {
 
     /// The number of a field of 5 bits.
     pub(crate) fn of_field(field: u32) -> Reg
-        requires { field < 2 ^ 5 }
-        ensures { result ≡ field }
+        requires in_range { field < 2 ^ 5 }
+        ensures value { result ≡ field }
     {
         Reg { number: field }
     }

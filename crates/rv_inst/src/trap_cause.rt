@@ -4,7 +4,7 @@ ghost use Rattle.rv_inst.specs.Traps.{trap_text};
 
 /// Why a step traps. The last is no step's: no call of the host for an event came in time.
 ///
-/// docs/FORMATS.md, "RV32IM".
+/// docs/MACHINE.md, "RV32IM".
 #[derive(Clone, Copy, Debug, PartialEq, Eq)]
 pub enum TrapCause {
     FetchAddress,

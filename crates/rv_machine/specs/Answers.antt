@@ -1,5 +1,5 @@
 -- What a step of the machine answers, and what it leaves.
--- The rules in words: docs/FORMATS.md, "RV32IM".
+-- The rules in words: docs/MACHINE.md, "RV32IM".
 use Rattle.std.specs.Prelude.{◌-◌, ◌^◌, min}
 use Rattle.rv_inst.specs.Harts.{Hart, Step, Done, Called, Trapped}
 use Rattle.rv_machine.specs.declared.rv_step.RvStep.{RvStep}

@@ -8,7 +8,7 @@ use tam_word::{Op, apply};
 
 // The word as a signed number.
 fn signed(word: u32) -> i32
-    ensures { result ≡ cast_signed w32 word }
+    ensures value { result ≡ cast_signed w32 word }
 {
     word.cast_signed()
 }

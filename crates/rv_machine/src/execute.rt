@@ -10,7 +10,7 @@ use rv_inst::{Inst, Reg, TrapCause};
 
 /// Carries out an instruction at pc.
 ///
-/// docs/FORMATS.md, "RV32IM".
+/// docs/MACHINE.md, "RV32IM".
 pub fn carry_out(rv: &mut Rv, inst: &Inst) -> RvStep
     ensures value { result ≡ answer (carried_out rv.old inst.now) }
     ensures after { rv.new ≡ state_after rv.old (carried_out rv.old inst.now) }

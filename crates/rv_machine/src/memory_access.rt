@@ -34,7 +34,7 @@ pub fn store_size(name: StoreName) -> u32
 
 /// What a load gives.
 pub fn load(memory: &[u8], name: LoadName, at: usize) -> u32
-    requires { at + load_size name ≤ length memory.now }
+    requires in_range { at + load_size name ≤ length memory.now }
     ensures value { result ≡ loaded name (read_at memory.now at (load_size name)) }
 {
     match name {
@@ -48,7 +48,7 @@ pub fn load(memory: &[u8], name: LoadName, at: usize) -> u32
 
 // The byte with its sign.
 fn extended_byte(byte: u32) -> u32
-    requires { byte < 2 ^ 8 }
+    requires in_range { byte < 2 ^ 8 }
     ensures value { result ≡ extended 8 byte }
 {
     if byte < 0x80 {
@@ -60,7 +60,7 @@ fn extended_byte(byte: u32) -> u32
 
 // Two bytes with their sign.
 fn extended_half(half: u32) -> u32
-    requires { half < 2 ^ 16 }
+    requires in_range { half < 2 ^ 16 }
     ensures value { result ≡ extended 16 half }
 {
     if half < 0x8000 {
@@ -72,7 +72,7 @@ fn extended_half(half: u32) -> u32
 
 /// Writes the low bytes of a word.
 pub fn store(memory: &mut [u8], name: StoreName, at: usize, word: u32)
-    requires { at + store_size name ≤ length memory.old }
+    requires in_range { at + store_size name ≤ length memory.old }
     ensures value { memory.new ≡ written_at memory.old at (store_size name) word }
 {
     let [a, b, c, d] = word_bytes(word);

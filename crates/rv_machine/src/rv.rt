@@ -17,7 +17,7 @@ use tam_edge::NoMemory;
 
 /// A machine of RV32IM: registers, pc, the bytes of the memory, and the number of steps that did not trap.
 ///
-/// docs/FORMATS.md, "RV32IM".
+/// docs/MACHINE.md, "RV32IM".
 #[derive(Drop)]
 pub struct Rv {
     regs: [u32; 32],
@@ -71,7 +71,7 @@ impl Rv {
 
     /// The word of a register.
     pub fn reg(&self, r: u32) -> u32
-        requires { r < 32 }
+        requires in_range { r < 32 }
         ensures value { result ≡ reg self.now r }
         ensures zero { reg self.now 0 ≡ 0 }
     {
@@ -80,7 +80,7 @@ impl Rv {
 
     /// Gives a register a word; register 0 stays 0.
     pub fn set_reg(&mut self, r: u32, w: u32)
-        requires { r < 32 }
+        requires in_range { r < 32 }
         ensures value { self.new ≡ with_reg self.old r w }
     {
         if r != 0 {
@@ -125,7 +125,7 @@ impl Rv {
 
     // A jump, with the return address in rd.
     pub(crate) fn jump(&mut self, rd: u32, to: u32) -> RvStep
-        requires { rd < 32 }
+        requires in_range { rd < 32 }
         ensures value { result ≡ answer (jump self.old rd to) }
         ensures after { self.new ≡ state_after self.old (jump self.old rd to) }
     {
@@ -175,19 +175,15 @@ impl Rv {
 
 // The bytes of the words, and so many frames of zero bytes.
 fn memory_of(alloc: Global, image: &Image, frames: u32) -> Result<Vec<u8>, NoMemory>
-    requires { frames ≤ 16384 }
+    requires frames { frames ≤ 16384 }
     ensures value { IfOk result (λ memory. memory.items ≡ bytes_of_words image.now.words ++ replicate (frames * image.now.stride) 0) }
 {
     let room = frames as usize * image.stride() as usize;
     let size = 4 * image.words().len() + room;
-    let Ok(mut memory) = Vec::with_capacity(alloc, size) else {
-        return Err(NoMemory);
-    };
+    let mut memory = Vec::with_capacity(alloc, size)?;
     image.append_words(&mut memory)?;
     let len = memory.len();
-    if memory.resize(len + room, 0).is_err() {
-        return Err(NoMemory);
-    }
+    memory.resize(len + room, 0)?;
     Ok(memory)
 }
 

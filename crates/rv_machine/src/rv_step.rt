@@ -3,7 +3,7 @@ use rv_inst::TrapCause;
 
 /// What a step came to. `Ecall` is behind the call already; `Trap` left the machine as it was.
 ///
-/// docs/FORMATS.md, "RV32IM".
+/// docs/MACHINE.md, "RV32IM".
 #[derive(Clone, Copy, Debug, PartialEq, Eq)]
 pub enum RvStep {
     Done,

@@ -6,12 +6,15 @@ use Rattle.rv_asm.proofs.PrintedReads.{printed_text}
 use Rattle.rv_asm.proofs.assembler.assemble.Goals as goal
 
 pub words_of-requires : goal.words_of-requires
-words_of-requires c = record { few = few_words c.args.text.now c.in-Ok.pass c.in-Ok.ensures.faultless c.in-Ok.ensures.ok c.deref.result.now c.deref.ensures.value }
+words_of-requires c =
+    record { few = few_words c.args.text.now c.in-Ok.pass c.in-Ok.ensures.faultless c.in-Ok.ensures.ok c.deref.result.now c.deref.ensures.value }
 
 pub of-requires : goal.of-requires
 of-requires c =
-    in_image c.args.text.now c.in-Ok.pass c.in-Ok.ensures.faultless c.in-Ok.ensures.ok c.deref.result.now c.in-Ok-words_of.words.items c.deref.ensures.value
-    c.in-Ok-words_of.ensures.len
+    record {
+      in_range = in_image c.args.text.now c.in-Ok.pass c.in-Ok.ensures.faultless c.in-Ok.ensures.ok c.deref.result.now c.in-Ok-words_of.words.items
+          c.deref.ensures.value c.in-Ok-words_of.ensures.len;
+    }
 
 pub returns-in-Ok-words_of-clause-reads : goal.returns-in-Ok-words_of-clause-reads
 returns-in-Ok-words_of-clause-reads c =

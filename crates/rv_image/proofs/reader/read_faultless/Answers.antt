@@ -7,15 +7,17 @@ use Rattle.rv_image.proofs.reader.read_faultless.Goals as goal
 
 pub of-requires : goal.of-requires
 of-requires c =
-    (image-made c.args.bytes.now c.in_ok-words.words.items c.word_at-stride.result c.word_at-params.result c.word_at-results.result
-    (λ k. omega (arith, c.type_inv.bytes k)) c.requires (c.in_ok-words.ensures.value ∙ c.split_at.ensures.back)
-    c.word_at-stride.ensures.value c.word_at-params.ensures.value c.word_at-results.ensures.value).0
+    record {
+      in_range = (image-made c.args.bytes.now c.in_ok-words.words.items c.word_at-stride.result c.word_at-params.result c.word_at-results.result
+          (λ k. omega (arith, c.type_inv.bytes k)) c.requires.faultless (c.in_ok-words.ensures.value ∙ c.split_at.ensures.back)
+          c.word_at-stride.ensures.value c.word_at-params.ensures.value c.word_at-results.ensures.value).0;
+    }
 
 pub returns : goal.returns
 returns c =
     record {
       value = subst (λ (i : Image). (IsImage i × (c.args.bytes.now ≡ image_bytes i))) (sym c.of.ensures.value)
           (image-made c.args.bytes.now c.in_ok-words.words.items c.word_at-stride.result c.word_at-params.result c.word_at-results.result
-          (λ k. omega (arith, c.type_inv.bytes k)) c.requires (c.in_ok-words.ensures.value ∙ c.split_at.ensures.back)
+          (λ k. omega (arith, c.type_inv.bytes k)) c.requires.faultless (c.in_ok-words.ensures.value ∙ c.split_at.ensures.back)
           c.word_at-stride.ensures.value c.word_at-params.ensures.value c.word_at-results.ensures.value);
     }

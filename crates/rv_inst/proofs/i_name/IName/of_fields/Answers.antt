@@ -1,0 +1,18 @@
+-- What is found among the rows is what the standard's numbers say.
+use Rattle.std.proofs.Common.{◌≡◌, ◌==◌, ◌∙◌, ap, rules, tests, Bor}
+use Rattle.std.specs.Option.{option_map}
+use Rattle.std.specs.List.{find}
+use Rattle.std.proofs.lemmas.Iterator.{YieldsList-from_slice}
+use Rattle.std.proofs.lemmas.Iterator.Search.{find_from_yields_List}
+use Rattle.rv_inst.specs.declared.i_name.IRow.{IRow}
+use Rattle.rv_inst.specs.declared.i_name.TheConstants.{I_ROWS}
+use Rattle.rv_inst.proofs.Tables.{i_rows}
+use Rattle.rv_inst.proofs.i_name.IName.of_fields.Goals as goal
+
+pub returns : goal.returns
+returns c =
+    let found : option_map (λ (r : Bor IRow). r.now) c.find.result ≡ find (λ row. row.funct3 == c.args.funct3) I_ROWS =
+    find_from_yields_List (λ row. row.funct3 == c.args.funct3) _ _ c.find.result c.find.ensures.ran
+    (YieldsList-from_slice I_ROWS (cc)) (λ x b q k. search (rules, tests)) in
+    let named : c.map.result ≡ option_map (λ row. row.name) (option_map (λ (r : Bor IRow). r.now) c.find.result) = search (rules, tests) in
+    record { value = named ∙ (ap (option_map (λ row. row.name)) found ∙ i_rows c.args.funct3) }

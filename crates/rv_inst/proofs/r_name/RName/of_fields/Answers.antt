@@ -1,0 +1,18 @@
+-- What is found among the rows is what the standard's numbers say.
+use Rattle.std.proofs.Common.{◌≡◌, ◌==◌, ◌&&◌, ◌∙◌, ap, rules, tests, Bor}
+use Rattle.std.specs.Option.{option_map}
+use Rattle.std.specs.List.{find}
+use Rattle.std.proofs.lemmas.Iterator.{YieldsList-from_slice}
+use Rattle.std.proofs.lemmas.Iterator.Search.{find_from_yields_List}
+use Rattle.rv_inst.specs.declared.r_name.RRow.{RRow}
+use Rattle.rv_inst.specs.declared.r_name.TheConstants.{R_ROWS}
+use Rattle.rv_inst.proofs.Tables.{r_rows}
+use Rattle.rv_inst.proofs.r_name.RName.of_fields.Goals as goal
+
+pub returns : goal.returns
+returns c =
+    let found : option_map (λ (r : Bor RRow). r.now) c.find.result ≡ find (λ row. (row.funct7 == c.args.funct7) && (row.funct3 == c.args.funct3)) R_ROWS =
+    find_from_yields_List (λ row. (row.funct7 == c.args.funct7) && (row.funct3 == c.args.funct3)) _ _ c.find.result c.find.ensures.ran
+    (YieldsList-from_slice R_ROWS (cc)) (λ x b q k. search (rules, tests)) in
+    let named : c.map.result ≡ option_map (λ row. row.name) (option_map (λ (r : Bor RRow). r.now) c.find.result) = search (rules, tests) in
+    record { value = named ∙ (ap (option_map (λ row. row.name)) found ∙ r_rows c.args.funct7 c.args.funct3) }

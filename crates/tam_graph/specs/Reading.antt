@@ -1,11 +1,11 @@
 -- Which bytes read as a graph: their lines with tokens are the graph's lines, token by token.
-use Rattle.std.specs.Prelude.{ℕ, ◌≡◌, ◌<◌, ◌≤◌, Bool, true, false, ◌&&◌, List, [], ◌∷◌, map, Option, Some, None, is_none, length}
+use Rattle.std.specs.Prelude.{ℕ, ◌≡◌, ◌<◌, ◌≤◌, Bool, true, false, ◌&&◌, nat_lt, List, [], ◌∷◌, map, Option, Some, None, is_none, length}
 use Rattle.tam_word.specs.Lists.{all_of, all_differ, same_bytes}
 use Rattle.tam_graph.specs.declared.node.Node.{Node}
-use Rattle.tam_graph.specs.Graphs.{Code, Graph, code_of, main_among}
+use Rattle.tam_graph.specs.Graphs.{Code, Graph, code_of, main_among, blocks_of}
 use Rattle.tam_text.specs.Names.{is_name}
 use Rattle.tam_text.specs.Lines.{token_lines, are_good_bytes}
-use Rattle.tam_graph.specs.Written.{IsWritten}
+use Rattle.tam_graph.specs.Written.{IsWritten, number_of_vertices}
 use Rattle.tam_graph.specs.Texts.{Token, Bytes, Number, Line, spells, is_named, or_bytes, graph_lines}
 
 -- ---- reading
@@ -41,26 +41,35 @@ names_in c = given_names (map (λ n. n.name) c.nodes)
 abbrev pub is_named_right : Node → Bool
 is_named_right n = elim (is_named n.kind) [ true ↦ is_name (or_bytes n.name) | false ↦ is_none n.name ]
 
--- the code stands in some text with so many codes: it is written, and its names are names, where they belong, and differ
+-- the code is one of so many codes as a text writes them: it is written, and its names are names, where they belong, and differ
 pub record IsCodeOfText (codes : ℕ) (c : Code) : Type 0 where
   pub written : IsWritten codes c
   pub named : is_name c.name ≡ true
   pub nodes_named : all_of is_named_right c.nodes ≡ true
   pub nodes_differ : all_differ same_bytes (names_in c) ≡ true
 
--- the code stands in some text within the limits
+-- the code is one of a graph as a text writes it
 abbrev pub IsCode : Code → Type 0
 IsCode c = (codes : ℕ) × (codes ≤ 256) × IsCodeOfText codes c
 
--- the graph is that of some text
+-- the graph is as a text writes it, though its blocks may have more vertices than a text's
 pub record IsOfText (g : Graph) : Type 0 where
   pub each_code : (n : ℕ) → n < length g.codes → IsCodeOfText (length g.codes) (code_of g n)
   pub few_codes : length g.codes ≤ 256
   pub codes_differ : all_differ same_bytes (map (λ c. c.name) g.codes) ≡ true
   pub main : g.main ≡ main_among g.codes
 
+-- no block of the code has more than 128 vertices, which is the most in a text
+abbrev pub has_short_blocks : Code → Bool
+has_short_blocks c = all_of (λ b. nat_lt (number_of_vertices c b) 129) (blocks_of c)
+
+-- and so in each code
+abbrev pub is_short : Graph → Bool
+is_short g = all_of has_short_blocks g.codes
+
 -- the bytes read as the graph
 pub record Reads (bytes : List ℕ) (g : Graph) : Type 0 where
   pub good : are_good_bytes bytes ≡ true
   pub text : IsOfText g
+  pub short : is_short g ≡ true
   pub lines : same_lines (token_lines bytes) (graph_lines g) ≡ true

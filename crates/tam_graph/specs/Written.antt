@@ -1,4 +1,5 @@
--- What the text of a graph makes sure of, names aside: the order of nodes and blocks, what lines name, and the limits.
+-- What the text of a graph makes sure of, names aside: the order of nodes and blocks, what lines name, and the limits. A block may have
+-- 512 vertices here, and 128 in a text.
 use Rattle.std.specs.Prelude.{ℕ, zero, suc, ◌^◌, ◌≡◌, Bool, true, false, ◌&&◌, not, nat_lt, nat_le, List, [], ◌∷◌, ◌++◌, flat_map, Option, Some, None, length}
 use Rattle.std.specs.Prelude.{zip, sum_by}
 use Rattle.tam_word.specs.Lists.{all_of}
@@ -113,12 +114,12 @@ depth_of_block (suc fuel) c b = elim (owner_of c b) [ [] ↦ 0 | d ∷ ds ↦ su
 abbrev pub greatest_depth : Code → ℕ → ℕ
 greatest_depth c x = elim (is_operand c x) [ true ↦ 3 | false ↦ 0 ]
 
--- a code that stands in some text within the limits, names aside
+-- a code as a text writes it, names aside, with at most 512 vertices in a block and 1,024 in all
 pub record IsWritten (codes : ℕ) (c : Code) : Type 0 where
   pub nodes_in_order : in_file_order (length c.owners) c 0 ≡ node_numbers c
   pub blocks_in_order : (0, None) ∷ in_opening_order (length c.owners) c 0 ≡ zip (blocks_of c) c.owners
   pub lines : all_of (λ x. is_line codes c (kind_at c x)) (node_numbers c) ≡ true
   pub depths : all_of (λ x. nat_le (depth_at c x) (greatest_depth c x)) (node_numbers c) ≡ true
   pub shallow : all_of (λ b. nat_lt (depth_of_block (length c.owners) c b) 17) (blocks_of c) ≡ true
-  pub small_blocks : all_of (λ b. nat_lt (number_of_vertices c b) 129) (blocks_of c) ≡ true
+  pub small_blocks : all_of (λ b. nat_lt (number_of_vertices c b) 513) (blocks_of c) ≡ true
   pub small : nat_lt (sum_by (number_of_vertices c) (blocks_of c)) 1025 ≡ true

@@ -3,11 +3,10 @@ use Rattle.std.proofs.Common.{◌≡◌, ℕ, zero, suc, ◌+◌, ◌*◌, ◌�
 use Rattle.std.proofs.lemmas.List.{length-append}
 use Rattle.std.proofs.lemmas.List.Concat.{flat_map-append}
 use Rattle.std.proofs.lemmas.Slice.Zip.{length-zip}
-use Rattle.std.specs.List.{zip}
 use Rattle.tam_graph.specs.declared.kind.Kind.{Kind}
 use Rattle.tam_graph.specs.declared.kind.Kind.TheVariants.{Cond}
-use Rattle.tam_graph.specs.Graphs.{Code, kind_at, nodes_in, node_numbers, blocks_of}
-use Rattle.tam_graph.specs.Written.{IsWritten, Visit, AtNode, AtElse, AtEnd, branches, visits, node_visited, opened_by, in_file_order, in_opening_order}
+use Rattle.tam_graph.specs.Graphs.{Code, kind_at, nodes_in, blocks_of}
+use Rattle.tam_graph.specs.Written.{IsWritten, Visit, AtNode, AtElse, AtEnd, branches, visits, node_visited, opened_by}
 use Rattle.tam_graph.proofs.FewNodes.{few-nodes, length-below}
 
 -- how many blocks such lines open

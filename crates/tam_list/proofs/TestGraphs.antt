@@ -7,7 +7,7 @@ use Rattle.tam_word.proofs.Tests.{test-below}
 use Rattle.tam_graph.specs.declared.kind.Kind.{Kind}
 use Rattle.tam_graph.specs.declared.kind.Kind.TheVariants.{Param, Const, Op as Operate, Call, Arg, Ret, Give, Alloc, Fetch}
 use Rattle.tam_graph.specs.declared.node.Node.{Node}
-use Rattle.tam_graph.specs.Graphs.{Code, Graph, graph_of, code_of, main_name}
+use Rattle.tam_graph.specs.Graphs.{Code, graph_of, code_of, main_name}
 use Rattle.tam_graph.specs.Written.{IsWritten}
 use Rattle.tam_graph.specs.Accepted.{IsAccepted}
 

@@ -1,5 +1,6 @@
 // What each vertex of a block depends on, and what demands it.
-ghost use Rattle.std.specs.Prelude.{◌≡◌, ◌<◌, ◌++◌, IfOk, OnOk, length};
+ghost use Rattle.std.specs.Prelude.{◌≡◌, ◌<◌, ◌++◌, IfOk, OnOk, length, filter};
+ghost use Rattle.tam_word.specs.Lists.{below, has};
 ghost use Rattle.tam_split.specs.Blocks.{dependences, demands};
 ghost use Rattle.tam_list.specs.Listings.{sets_line, sets_of};
 
@@ -8,7 +9,7 @@ use crate::vertices::{push_place, push_places};
 use std::alloc::Global;
 use tam_edge::NoMemory;
 use tam_reach::{demands, depends};
-use tam_sets::{PLACES, Set};
+use tam_sets::Set;
 use tam_split::BlockGraph;
 
 /// Adds the lines of a block's vertices.
@@ -41,18 +42,20 @@ fn push_sets_line(
     push(text, b"vertex ")?;
     push_place(text, block, place)?;
     push(text, b" dep ")?;
-    push_places(text, block, &members(alloc, inlets)?)?;
+    let count = block.vertices().len() as u32;
+    push_places(text, block, &members(alloc, inlets, count)?)?;
     push(text, b" dem ")?;
-    push_places(text, block, &members(alloc, outlets)?)?;
+    push_places(text, block, &members(alloc, outlets, count)?)?;
     push(text, b"\n")
 }
 
-// The places in a set, rising.
-fn members(alloc: Global, set: &Set) -> Result<Vec<u32>, NoMemory>
+// The places in a set of places below a number, rising.
+fn members(alloc: Global, set: &Set, count: u32) -> Result<Vec<u32>, NoMemory>
+    requires below { filter (has set.now) (below count) ≡ set.now }
     ensures value { IfOk result (λ places. places.items ≡ set.now) }
 {
     let mut places = Vec::new(alloc);
-    for place in 0..PLACES {
+    for place in 0..count {
         if set.has(place) && places.push(place).is_err() {
             return Err(NoMemory);
         }

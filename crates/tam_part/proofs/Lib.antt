@@ -1,3 +1,8 @@
 pub mod LeastPairs
-pub mod Told
 pub mod Merges
+pub mod Leading
+pub mod Updating
+pub mod Separating
+pub mod Joining
+pub mod Standing
+pub mod Shut

@@ -1,1 +1,1 @@
-pub mod Joinable
+pub mod Kept

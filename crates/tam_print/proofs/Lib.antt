@@ -1,4 +1,3 @@
-pub mod Plain
 pub mod Cutting
 pub mod Printed
 pub mod ReadsBack

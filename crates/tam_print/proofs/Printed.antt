@@ -21,7 +21,7 @@ use Rattle.tam_graph.specs.Texts.{Token, Bytes, Number, Line, token_text, spells
 use Rattle.tam_graph.specs.Reading.{is_token, is_named_right, IsCodeOfText, IsOfText}
 use Rattle.tam_text.proofs.SameBytes.{same_self}
 use Rattle.tam_graph.proofs.AcceptedFacts.{call-node, cond-node}
-use Rattle.tam_print.proofs.Plain.{is_plain, is_word, all-parts, all-more, decimal-word, decimal-plain, signed-word, name-word}
+use Rattle.tam_text.proofs.PlainWords.{is_plain, is_word, all-parts, all-more, decimal-word, decimal-plain, signed-word, name-word}
 
 -- bytes of a token, or a word that fits
 abbrev pub is_right : Token → Bool

@@ -12,8 +12,8 @@ use Rattle.tam_graph.specs.Graphs.{Code, Graph, code_of, or_code, kind_at}
 use Rattle.tam_text.specs.Lines.{is_some_of}
 use Rattle.tam_graph.specs.Written.{Visit, AtNode, AtElse, AtEnd, visits, node_visited}
 use Rattle.tam_graph.specs.Texts.{Bytes, Line, token_text, visit_line, node_line, tokens, code_lines, graph_lines, canonical, is_named, end_line}
-use Rattle.tam_graph.specs.Reading.{is_token, same_line, same_lines, IsCodeOfText, IsOfText, Reads}
-use Rattle.tam_print.proofs.Plain.{all-parts, all-more, name-word}
+use Rattle.tam_graph.specs.Reading.{is_token, same_line, same_lines, is_short, IsCodeOfText, IsOfText, Reads}
+use Rattle.tam_text.proofs.PlainWords.{all-parts, all-more, name-word}
 use Rattle.tam_print.proofs.Cutting.{is_printed, is_printed_line, text-words, text-good}
 use Rattle.tam_print.proofs.Printed.{is_right, right-printed, right-token, node-right}
 
@@ -122,11 +122,12 @@ module _ (g : Graph) (text : IsOfText g) where
   all-right = in-all is_right_line (graph_lines g) graph-right
 
   -- so the canonical text reads as the graph
-  pub reads-back : Reads (canonical g) g
-  reads-back =
+  pub reads-back : is_short g ≡ true → Reads (canonical g) g
+  reads-back short =
       let printed = lines-printed (graph_lines g) all-right in
       record {
         good = text-good (graph_lines g) printed;
         text = text;
+        short = short;
         lines = ap (λ ws. same_lines ws (graph_lines g)) (text-words (graph_lines g) printed) ∙ lines-same (graph_lines g) all-right;
       }

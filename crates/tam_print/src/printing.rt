@@ -1,7 +1,7 @@
 // The canonical text of a graph.
-ghost use Rattle.std.specs.Prelude.{◌≡◌, ◌++◌, length, IfOk, OnOk};
+ghost use Rattle.std.specs.Prelude.{◌≡◌, ◌++◌, length, true, IfOk, OnOk};
 ghost use Rattle.tam_graph.specs.Texts.{canonical};
-ghost use Rattle.tam_graph.specs.Reading.{IsCodeOfText, Reads};
+ghost use Rattle.tam_graph.specs.Reading.{IsCodeOfText, Reads, is_short};
 ghost use Rattle.tam_print.specs.PrintedLines.{code_text};
 
 use crate::block::{blocks_of, push_block};
@@ -17,8 +17,8 @@ use tam_graph::{Code, Graph};
 pub fn print(alloc: Global, g: &Graph) -> Result<Vec<u8>, NoMemory>
     ensures value { IfOk result (λ text. text.items ≡ canonical g.now) }
 
-    // It reads as the same graph.
-    ensures reads { IfOk result (λ text. Reads text.items g.now) }
+    // It reads as the same graph, where no block has more vertices than a text may give it.
+    ensures reads { IfOk result (λ text. is_short g.now ≡ true → Reads text.items g.now) }
 {
     match text_of(alloc, g) {
         Ok(text) => Ok(text),
@@ -29,7 +29,7 @@ pub fn print(alloc: Global, g: &Graph) -> Result<Vec<u8>, NoMemory>
 // The text, where there is memory for it.
 fn text_of(alloc: Global, g: &Graph) -> Result<Vec<u8>, AllocError>
     ensures value { IfOk result (λ text. text.items ≡ canonical g.now) }
-    ensures reads { IfOk result (λ text. Reads text.items g.now) }
+    ensures reads { IfOk result (λ text. is_short g.now ≡ true → Reads text.items g.now) }
 {
     law_canonical();
     let mut text = Vec::from_slice(alloc, b"dg 1\n")?;

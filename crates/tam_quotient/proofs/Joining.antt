@@ -1,12 +1,10 @@
--- By what leads to two classes of a valid partition and from them it is told whether they may be merged.
-use Rattle.std.proofs.Common.{◌≡◌, ℕ, ◌<◌, ◌≤◌, List, [], ◌∷◌, Bool, true, false, ◌&&◌, ◌||◌, refl, sym, subst, ap, arith, inl, inr, ◌⊎◌, ◌∙◌, true≢false, ◌==◌, length}
-use Rattle.std.proofs.Common.{nat_lt, zero, suc, slice_get}
+-- One class leaks to another exactly where an inlet that enters the other isn't allowed by it.
+use Rattle.std.proofs.Common.{◌≡◌, ℕ, ◌<◌, ◌≤◌, List, [], ◌∷◌, Bool, true, false, ◌&&◌, refl, sym, arith, ◌∙◌, true≢false, length}
+use Rattle.std.proofs.Common.{zero, suc, slice_get}
 use Rattle.tam_word.specs.Lists.{all_of, has}
-use Rattle.tam_word.proofs.Tests.{number-eq, eq-number, number-differs, both-true, true-both, below-test}
-use Rattle.tam_word.proofs.Members.{In, any-in, all-in, in-all, in-map, in-filter, filter-in, in-below, below-in}
+use Rattle.tam_word.proofs.Tests.{both-true, true-both}
+use Rattle.tam_word.proofs.Members.{In, all-in, in-all, in-filter, filter-in, in-below, below-in}
 use Rattle.tam_graph.specs.Edges.{reaches}
-use Rattle.tam_graph.proofs.Walks.{reaches-walk, last-edge, is_edge}
-use Rattle.tam_graph.proofs.Quotients.{under}
 use Rattle.tam_split.specs.declared.vertex.Vertex.{Vertex}
 use Rattle.tam_split.specs.Blocks.{BlockGraph, vertex_at, or_vertex, places, inlets_of, outlets_of}
 use Rattle.tam_split.specs.Partitions.{Parts, class_of, leads_to}
@@ -14,25 +12,13 @@ use Rattle.tam_split.specs.PartitionLaws.{IsBlockGraph}
 use Rattle.tam_split.proofs.Classes.{IsParts}
 use Rattle.tam_split.proofs.Validity.{ClassLeads, leads_to-leads, leads-leads_to}
 use Rattle.tam_split.proofs.Separation.{Leak}
-use Rattle.tam_split.proofs.Partitioning.{edge-within}
-use Rattle.tam_sets.specs.Sets.{with_place, met, is_within}
-use Rattle.tam_quotient.specs.Quotients.{leads_to_outlet, allows, ahead_of, behind_of, entering_of, allowed_of, pair_of}
+use Rattle.tam_sets.specs.Sets.{is_within}
+use Rattle.tam_quotient.specs.Quotients.{leads_to_outlet, allows, entering_of, allowed_of}
 use Rattle.tam_sets.proofs.PlacesWhere.{where-in, has-where}
 use Rattle.tam_quotient.proofs.Places.{member-passes}
 
--- a block of at most 128 places, in classes of which each place has one
-module _ (b : BlockGraph) (graph : IsBlockGraph b) (few : length b.vertices ≤ 128) (ps : Parts) (parts : IsParts (length b.vertices) ps) where
-  -- what a class leads to is the class itself, or one of the partition
-  pub leads-within : (a c : ℕ) → ClassLeads b ps a c → (a ≡ c) ⊎ (c < length ps)
-  leads-within a c h = elim (last-edge (reaches-walk (under (class_of ps) b.edges) a c h)) [ inl e ↦ inl e | inr r ↦ inr (ends r.0 r.2) ]
-    where
-      ends : (y : ℕ) → is_edge (under (class_of ps) b.edges) y c ≡ true → c < length ps
-      ends y e =
-          let r = any-in (λ (d : ℕ × ℕ). (d.0 == y) && (d.1 == c)) (under (class_of ps) b.edges) e in
-          let s = in-map (λ (d : ℕ × ℕ). (class_of ps d.0, class_of ps d.1)) r.0 b.edges r.1 in
-          let t : r.0.1 ≡ c = number-eq r.0.1 c (both-true (r.0.0 == y) (r.0.1 == c) r.2).1 in
-          subst (λ z. z < length ps) (ap (λ (d : ℕ × ℕ). d.1) s.2 ∙ t) (parts.in_one s.0.1 (edge-within b graph s.0 s.1).1)
-
+-- a block of at most 512 places, in classes of which each place has one
+module _ (b : BlockGraph) (graph : IsBlockGraph b) (few : length b.vertices ≤ 512) (ps : Parts) (parts : IsParts (length b.vertices) ps) where
   -- inlets are places
   pub inlet-place : (i : ℕ) → In i (inlets_of b) → (i < length b.vertices) × ((vertex_at b i).inlet ≡ true)
   inlet-place i h = let r = in-filter (λ x. (vertex_at b x).inlet) i (places b) h in (in-below i (length b.vertices) r.0, r.1)
@@ -65,7 +51,7 @@ module _ (b : BlockGraph) (graph : IsBlockGraph b) (few : length b.vertices ≤ 
   pub within-no_leak : (c d : ℕ) → is_within (entering_of b ps d) (allowed_of b ps c) ≡ true → Leak b ps c d → ⊥
   within-no_leak c d h w =
       let p = inlet-place w.inlet w.is_inlet in
-      let low : w.inlet < 128 = omega (arith, few, p.0) in
+      let low : w.inlet < 512 = omega (arith, few, p.0) in
       let enters : ((vertex_at b w.inlet).inlet && leads_to b.edges ps (class_of ps w.inlet) d) ≡ true =
       true-both (vertex_at b w.inlet).inlet (leads_to b.edges ps (class_of ps w.inlet) d) p.1 (leads-leads_to b ps (class_of ps w.inlet) d w.from_inlet) in
       let member = where-in (λ i. (vertex_at b i).inlet && leads_to b.edges ps (class_of ps i) d) w.inlet low enters in
@@ -102,51 +88,3 @@ module _ (b : BlockGraph) (graph : IsBlockGraph b) (few : length b.vertices ≤ 
                     from_inlet = leads_to-leads b ps (class_of ps i) d leads;
                     misses = e;
                   }))
-
-  -- ---- third classes
-
-  -- a class on a way between two of the partition
-  abbrev pub on_way : ℕ → ℕ → List ℕ
-  on_way k l = met (ahead_of b ps k) (behind_of b ps l)
-
-  -- a class on a way from k to l, other than k, is one of them
-  pub way-member : length ps ≤ 128 → (k l x : ℕ) → (x ≡ k → ⊥) → ClassLeads b ps k x → ClassLeads b ps x l → (x < 128) × (has (on_way k l) x ≡ true)
-  way-member least k l x n p q =
-      let low : x < length ps = elim (leads-within k x p) [ inl e ↦ absurd (n (sym e)) | inr h ↦ h ] in
-      let small : x < 128 = omega (arith, least, low) in
-      let ahead = has-where (leads_to b.edges ps k) x small ∙ leads-leads_to b ps k x p in
-      let behind = has-where (λ c. nat_lt c (length ps) && leads_to b.edges ps c l) x small
-      ∙ true-both (nat_lt x (length ps)) (leads_to b.edges ps x l) (below-test x (length ps) low) (leads-leads_to b ps x l q) in (
-        small,
-        has-where (λ y. has (ahead_of b ps k) y && has (behind_of b ps l) y) x small
-            ∙ true-both (has (ahead_of b ps k) x) (has (behind_of b ps l) x) ahead behind,
-      )
-
-  -- and a member of that set is on a way
-  pub member-way : (k l x : ℕ) → x < 128 → has (on_way k l) x ≡ true → ClassLeads b ps k x × ClassLeads b ps x l
-  member-way k l x small h =
-      let r = both-true (has (ahead_of b ps k) x) (has (behind_of b ps l) x)
-      (sym (has-where (λ y. has (ahead_of b ps k) y && has (behind_of b ps l) y) x small) ∙ h) in
-      let p = sym (has-where (leads_to b.edges ps k) x small) ∙ r.0 in
-      let q = both-true (nat_lt x (length ps)) (leads_to b.edges ps x l) (sym (has-where (λ c. nat_lt c (length ps) && leads_to b.edges ps c l) x small) ∙ r.1) in
-      (leads_to-leads b ps k x p, leads_to-leads b ps x l q.1)
-
--- the two are members of the pair
-pub pair-has : (k l x : ℕ) → x < 128 → (x ≡ k) ⊎ (x ≡ l) → has (pair_of k l) x ≡ true
-pair-has k l x small h =
-    has-where (λ y. has (with_place k []) y || (y == l)) x small ∙ ap (λ t. t || (x == l)) (has-where (λ y. has [] y || (y == k)) x small) ∙ go (x == k) refl h
-  where
-    go : (t : Bool) → (x == k) ≡ t → (x ≡ k) ⊎ (x ≡ l) → ((has [] x || (x == k)) || (x == l)) ≡ true
-    go true p q = rw p refl
-    go false p (inl q) = absurd (number-differs x k p q)
-    go false p (inr q) = rw (p, eq-number x l q) refl
-
--- and no others are
-pub has-pair : (k l x : ℕ) → x < 128 → has (pair_of k l) x ≡ true → (x ≡ k) ⊎ (x ≡ l)
-has-pair k l x small h = go (x == k) refl (x == l) refl (sym (has-where (λ y. has (with_place k []) y || (y == l)) x small
-    ∙ ap (λ t. t || (x == l)) (has-where (λ y. has [] y || (y == k)) x small)) ∙ h)
-  where
-    go : (s : Bool) → (x == k) ≡ s → (t : Bool) → (x == l) ≡ t → ((has [] x || (x == k)) || (x == l)) ≡ true → (x ≡ k) ⊎ (x ≡ l)
-    go true p t q e = inl (number-eq x k p)
-    go false p true q e = inr (number-eq x l q)
-    go false p false q e = absurd (true≢false (sym (rw (p, q) at e)))

@@ -13,7 +13,7 @@ same-test false true f g = g refl
 same-test false false f g = refl
 
 -- a member is a place that passes
-pub member-passes : (t : ℕ → Bool) (x : ℕ) → In x (places_where t) → (x < 128) × (t x ≡ true)
+pub member-passes : (t : ℕ → Bool) (x : ℕ) → In x (places_where t) → (x < 512) × (t x ≡ true)
 member-passes t x h = (in-where t x h, in-passes t x h)
 
 -- the members of either of two

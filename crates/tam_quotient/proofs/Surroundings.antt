@@ -39,8 +39,8 @@ lists-elements (p ∷ ps) h = go (nat_lt 0 (length p)) refl (lists-elements ps)
         omega arith
     go false e i = absurd (true≢false (sym (rw (all_of, e) at h)))
 
--- so there are at most 128
-pub few-classes : (ps : Parts) → AreClasses ps → length ps ≤ 128
+-- so there are at most 512
+pub few-classes : (ps : Parts) → AreClasses ps → length ps ≤ 512
 few-classes ps kept = let l = lists-elements ps kept.none_empty in omega (arith, l, kept.few)
 
 -- ---- what each class leads to
@@ -57,7 +57,7 @@ map-same : (f g : ℕ → List ℕ) → ((k : ℕ) → f k ≡ g k) → (xs : Li
 map-same f g h [] = refl
 map-same f g h (x ∷ xs) = ap₂ (λ (y : List ℕ) ys. y ∷ ys) (h x) (map-same f g h xs)
 
-module _ (b : BlockGraph) (graph : IsBlockGraph b) (ps : Parts) (whole : IsPartition b ps) (least : length ps ≤ 128) where
+module _ (b : BlockGraph) (graph : IsBlockGraph b) (ps : Parts) (whole : IsPartition b ps) (least : length ps ≤ 512) where
   -- the class of each place
   abbrev pub classes : List ℕ
   classes = map (class_of ps) (places b)
@@ -109,7 +109,7 @@ module _ (b : BlockGraph) (graph : IsBlockGraph b) (ps : Parts) (whole : IsParti
   lead-at c h = get-table (ahead_of b ps) (length ps) c [] h
 
   -- and has what it leads to
-  lead-has : (c k : ℕ) → c < length ps → k < 128 → has (set_at leads c) k ≡ leads_to b.edges ps c k
+  lead-has : (c k : ℕ) → c < length ps → k < 512 → has (set_at leads c) k ≡ leads_to b.edges ps c k
   lead-has c k h l = ap (λ xs. has xs k) (lead-at c h) ∙ has-where (leads_to b.edges ps c) k l
 
   -- an inlet is a place
@@ -130,7 +130,7 @@ module _ (b : BlockGraph) (graph : IsBlockGraph b) (ps : Parts) (whole : IsParti
       (filter-in (λ x. (vertex_at b x).inlet) i (places b) (below-in i (length b.vertices) (inlet-low i h)) h) t))
 
   module _ (k : ℕ) (there : k < length ps) where
-    small : k < 128
+    small : k < 512
     small = omega (arith, there, least)
 
     -- what leads to the class

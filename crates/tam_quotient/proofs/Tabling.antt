@@ -114,7 +114,7 @@ pub alone-reaches : (k : ℕ) → with_place k [] ≡ places_where (reaches [] k
 alone-reaches k = places-same _ _ (λ x l. same-test (x == k) (k == x) (λ h. eq-number k x (sym (number-eq x k h))) (λ h. eq-number x k (sym (number-eq k x h))))
 
 -- one condition more: the inlets that meet it too
-pub met-more : (inlet : ℕ → Bool) (test : ℕ → ℕ → Bool) (n : ℕ) (xs : List ℕ) → ((i : ℕ) → i < 128 → test i n ≡ has xs i)
+pub met-more : (inlet : ℕ → Bool) (test : ℕ → ℕ → Bool) (n : ℕ) (xs : List ℕ) → ((i : ℕ) → i < 512 → test i n ≡ has xs i)
     → met (places_where (λ i. inlet i && all_of (test i) (below n))) xs ≡ places_where (λ i. inlet i && all_of (test i) (below (n + 1)))
 met-more inlet test n xs h = places-same _ _ (λ i l. rw (has-where (λ j. inlet j && all_of (test j) (below n)) i l, all-more (test i) n, h i l)
     (regroup (inlet i) (all_of (test i) (below n)) (has xs i)))
@@ -140,7 +140,7 @@ pub renamed-more : (names : List ℕ) (es : Edges) (i : ℕ) → i < length es
 renamed-more names es i h = ap (renamed names) (take_more es i (0, 0) h) ∙ map-append _ (take i es) (get_or es i (0, 0) ∷ [])
 
 -- a set grows by one edge to what is reached with it
-pub grown-more : (es : Edges) (a c k : ℕ) (further set : List ℕ) → a < 128 → set ≡ places_where (reaches es k) → further ≡ places_where (reaches es c)
+pub grown-more : (es : Edges) (a c k : ℕ) (further set : List ℕ) → a < 512 → set ≡ places_where (reaches es k) → further ≡ places_where (reaches es c)
     → grown a further set ≡ places_where (reaches (es ++ (a, c) ∷ []) k)
 grown-more es a c k further set l p q = go (reaches es k a) refl
   where

@@ -32,7 +32,7 @@ made_one-other k l c n = go (c == l) refl
     go false p = rw (made_one, p) refl
 
 -- other numbers than l stay apart where those above it go down by one
-unskip-other : (l a c : ℕ) → (a ≡ l → ⊥) → (c ≡ l → ⊥) → unskip l a ≡ unskip l c → a ≡ c
+pub unskip-other : (l a c : ℕ) → (a ≡ l → ⊥) → (c ≡ l → ⊥) → unskip l a ≡ unskip l c → a ≡ c
 unskip-other l a c p q h = go (three-ways a l) (three-ways c l)
   where
     go : (a ≡ l) ⊎ ((a < l) ⊎ (l < a)) → (c ≡ l) ⊎ ((c < l) ⊎ (l < c)) → a ≡ c

@@ -1,10 +1,10 @@
 -- The classes of a partition among one another: what a class leads to, what leads to it, and with which it may be made one.
-use Rattle.std.specs.Prelude.{ℕ, Bool, true, false, ◌&&◌, not, ◌==◌, nat_lt, List, [], length}
+use Rattle.std.specs.Prelude.{ℕ, Bool, true, false, ◌&&◌, not, ◌==◌, nat_lt, List, length}
 use Rattle.tam_word.specs.Lists.{all_of}
 use Rattle.tam_graph.specs.Edges.{reaches}
 use Rattle.tam_split.specs.Blocks.{BlockGraph, vertex_at, places, dependences}
 use Rattle.tam_split.specs.Partitions.{Parts, class_of, leads_to}
-use Rattle.tam_sets.specs.Sets.{places_where, with_place, met, joined, is_within}
+use Rattle.tam_sets.specs.Sets.{places_where, is_within}
 
 -- class k leads to the class of an outlet
 abbrev pub leads_to_outlet : BlockGraph → Parts → ℕ → ℕ → Bool
@@ -29,16 +29,6 @@ entering_of b ps k = places_where (λ i. (vertex_at b i).inlet && leads_to b.edg
 -- the inlets on which each outlet that class k leads to depends
 abbrev pub allowed_of : BlockGraph → Parts → ℕ → List ℕ
 allowed_of b ps k = places_where (λ i. (vertex_at b i).inlet && all_of (allows b ps k i) (places b))
-
--- the two
-abbrev pub pair_of : ℕ → ℕ → List ℕ
-pair_of k l = with_place l (with_place k [])
-
--- no outlet would get a dependence from making two classes one, and no third class stands on a way from one to the other
-abbrev pub may_join : BlockGraph → Parts → ℕ → ℕ → Bool
-may_join b ps k l =
-    is_within (entering_of b ps k) (allowed_of b ps l) && is_within (entering_of b ps l) (allowed_of b ps k)
-    && is_within (joined (met (ahead_of b ps k) (behind_of b ps l)) (met (ahead_of b ps l) (behind_of b ps k))) (pair_of k l)
 
 -- the edge runs between two classes of which the second leads to the first
 abbrev pub closes_cycle : BlockGraph → Parts → ℕ × ℕ → Bool

@@ -33,7 +33,7 @@ pub(crate) fn is_outlet(b: &BlockGraph, place: u32) -> bool
 pub(crate) fn classes_of(alloc: Global, b: &BlockGraph, p: &Parts) -> Result<Vec<u32>, NoMemory>
     requires whole { IsPartition b.now p.now }
     ensures value { IfOk result (λ classes. classes.items ≡ map (class_of p.now) (places b.now)) }
-    ensures few { length b.now.vertices ≤ 128 }
+    ensures few { length b.now.vertices ≤ 512 }
 {
     let mut classes = Vec::new(alloc);
     for place in 0..b.vertices().len() as u32 {
@@ -46,7 +46,7 @@ pub(crate) fn classes_of(alloc: Global, b: &BlockGraph, p: &Parts) -> Result<Vec
 pub(crate) fn class_of(p: &Parts, place: u32) -> u32
     requires there { class_of p.now place < length p.now }
     ensures value { result ≡ class_of p.now place }
-    ensures small { result < 128 }
+    ensures small { result < 512 }
 {
     for k in 0..p.classes() {
         if has(p.class(k), place) {

@@ -5,7 +5,7 @@ ghost use Rattle.tam_split.specs.Blocks.{vertex_at, places, dependences};
 ghost use Rattle.tam_split.specs.PartitionLaws.{IsPartition};
 ghost use Rattle.tam_sets.specs.Sets.{places_where};
 ghost use Rattle.tam_quotient.specs.Tables.{column, enters, entered, is_led_to, permitted};
-ghost use Rattle.tam_quotient.specs.Joins.{ways_of, ways_to, TellMerges};
+ghost use Rattle.tam_quotient.specs.Joins.{ways_of, ways_to};
 
 use crate::Ways;
 use crate::block::{classes_of, is_inlet, is_outlet};
@@ -25,8 +25,7 @@ pub fn quotient(
     requires whole { IsPartition b.now p.now }
     requires depends { depends.now ≡ map (dependences b.now) (places b.now) }
     ensures value { IfOk result (λ ways. ways.items ≡ map (ways_of b.now p.now) (below (length p.now))) }
-    ensures few { IfOk result (λ ways. length ways.items ≤ 128) }
-    ensures told { IfOk result (λ _. TellMerges b.now p.now) }
+    ensures few { IfOk result (λ ways. length ways.items ≤ 512) }
 {
     let classes = classes_of(alloc, b, p)?;
     let leads = spread(alloc, b.edges(), &classes, p.classes())?;
@@ -42,7 +41,7 @@ pub fn quotient(
 
 // The ways to class k and from it, by the class of each place and by what each class leads to.
 fn ways_to(b: &BlockGraph, classes: &[u32], leads: &[Set], depends: &[Set], k: u32) -> Ways
-    requires few { length leads.now ≤ 128 }
+    requires few { length leads.now ≤ 512 }
     requires there { k < length leads.now }
     requires each { length classes.now ≡ length b.now.vertices }
     requires in_range { (x : ℕ) → x < length classes.now → slice_index classes.now x < length leads.now }
@@ -60,7 +59,7 @@ fn ways_to(b: &BlockGraph, classes: &[u32], leads: &[Set], depends: &[Set], k: u
 
 // The classes that lead to class k.
 fn behind(leads: &[Set], k: u32) -> Set
-    requires few { length leads.now ≤ 128 }
+    requires few { length leads.now ≤ 512 }
     ensures value { result ≡ column leads.now k }
 {
     let mut set = Set::empty();

@@ -17,7 +17,7 @@ pub(crate) fn spread(
     names: &[u32],
     n: u32,
 ) -> Result<Vec<Set>, NoMemory>
-    requires few { n ≤ 128 }
+    requires few { n ≤ 512 }
     requires named { AreBelow n edges.now names.now }
     ensures value { IfOk result (λ sets. sets.items ≡ map (λ k. places_where (reaches (renamed names.now edges.now) k)) (below n)) }
 {
@@ -28,7 +28,7 @@ pub(crate) fn spread(
 
 // Adds to what each number reaches by no edge what it reaches by all.
 fn grow_by_all(sets: &mut [Set], edges: &[(u32, u32)], names: &[u32])
-    requires few { length sets.old ≤ 128 }
+    requires few { length sets.old ≤ 512 }
     requires named { AreBelow (length sets.old) edges.now names.now }
     requires alone { (k : ℕ) → k < length sets.old → set_at sets.old k ≡ places_where (reaches [] k) }
     ensures value { (k : ℕ) → k < length sets.old → set_at sets.new k ≡ places_where (reaches (renamed names.now edges.now) k) }
@@ -40,7 +40,7 @@ fn grow_by_all(sets: &mut [Set], edges: &[(u32, u32)], names: &[u32])
 
 // For each of n numbers the set of it alone.
 fn alone(alloc: Global, n: u32) -> Result<Vec<Set>, NoMemory>
-    requires few { n ≤ 128 }
+    requires few { n ≤ 512 }
     ensures value { IfOk result (λ sets. sets.items ≡ map (λ k. with_place k []) (below n)) }
 {
     let mut sets = Vec::new(alloc);

@@ -15,30 +15,25 @@ pub struct Ways {
 }
 
 impl Ways {
-    ghost use Rattle.std.specs.Prelude.{◌≡◌, ◌<◌};
-    ghost use Rattle.tam_quotient.specs.Joins.{are_joinable, has_none_between};
+    ghost use Rattle.std.specs.Prelude.{◌≡◌};
+    ghost use Rattle.tam_quotient.specs.Joins.{tells_apart, tells_none_between};
 
-    /// Whether the classes k and l, of these ways, may be made one: no outlet gets a dependence by that, and no third class stands on
-    /// a way from one of them to the other.
-    pub fn joins(&self, k: u32, l: u32, other: &Ways) -> bool
-        requires in_range { (k < 128) × (l < 128) }
-        ensures value { result ≡ are_joinable k l self.now other.now }
+    /// Whether an outlet that one of the two classes leads to doesn't depend on an inlet that leads to the other.
+    pub fn is_apart(&self, other: &Ways) -> bool
+        ensures value { result ≡ tells_apart self.now other.now }
     {
-        self.entering.within(&other.allowed)
-            && other.entering.within(&self.allowed)
-            && self.has_none_between(k, l, other)
+        !(self.entering.within(&other.allowed) && other.entering.within(&self.allowed))
     }
 
-    // Whether no third class stands on a way from one to the other.
-    fn has_none_between(&self, k: u32, l: u32, other: &Ways) -> bool
-        requires in_range { (k < 128) × (l < 128) }
-        ensures value { result ≡ has_none_between k l self.now other.now }
+    /// Whether no third class stands on a way from one of the two to the other. What a class of a valid partition leads to and is led
+    /// to by is the class itself.
+    pub fn has_none_between(&self, other: &Ways) -> bool
+        ensures value { result ≡ tells_none_between self.now other.now }
     {
-        let mut pair = Set::empty();
-        pair.insert(k);
-        pair.insert(l);
         let there = self.ahead.meet(&other.behind);
         let back = other.ahead.meet(&self.behind);
-        there.join(&back).within(&pair)
+        let one = self.ahead.meet(&self.behind);
+        let two = other.ahead.meet(&other.behind);
+        there.join(&back).within(&one.join(&two))
     }
 }

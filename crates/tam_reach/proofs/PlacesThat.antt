@@ -7,7 +7,6 @@ use Rattle.tam_word.specs.Lists.{below, has}
 use Rattle.tam_word.proofs.Tests.{below-test, number-eq}
 use Rattle.tam_word.proofs.Members.{In, in-below}
 use Rattle.tam_graph.specs.Edges.{Edges, reaches}
-use Rattle.tam_sets.specs.declared.set.TheConstants.{PLACES}
 use Rattle.tam_sets.specs.Sets.{places_where, with_place, met}
 use Rattle.tam_sets.specs.BitsBack.{all-places, where-filter}
 use Rattle.tam_sets.proofs.PlacesWhere.{places-same, has-where, has-beyond, where-none}
@@ -140,7 +139,7 @@ below-or_not x n = go (cases x n)
     go (inr l) = inr (λ m. absurd (omega arith))
 
 -- what is kept of the places that pass f, where those of the vertices that pass a test are kept
-kept-places : (f : ℕ → Bool) (test : Vertex → Bool) (vs : List Vertex) → length vs ≤ PLACES
+kept-places : (f : ℕ → Bool) (test : Vertex → Bool) (vs : List Vertex) → length vs ≤ 512
     → met (places_where f) (places_that test vs) ≡ filter f (filter (λ x. test (or_vertex (slice_get vs x))) (below (length vs)))
 kept-places f test vs few =
     let all = all-places in
@@ -167,10 +166,10 @@ kept-places f test vs few =
     beyond : (x : ℕ) → length vs ≤ x → (has (places_where f) x && has (places_that test vs) x) ≡ false
     beyond x l = rw (none (cases x)) (neither (has (places_where f) x))
       where
-        cases : (y : ℕ) → (y < PLACES) ⊎ (y < PLACES → ⊥)
-        cases y = below-or_not y PLACES
+        cases : (y : ℕ) → (y < 512) ⊎ (y < 512 → ⊥)
+        cases y = below-or_not y 512
 
-        none : (x < PLACES) ⊎ (x < PLACES → ⊥) → has (places_that test vs) x ≡ false
+        none : (x < 512) ⊎ (x < 512 → ⊥) → has (places_that test vs) x ≡ false
         none (inl m) =
             let e : nat_lt x (length vs) ≡ false = grind (arith, tests) in
             has-where (λ x. nat_lt x (length vs) && test (or_vertex (slice_get vs x))) x m ∙ rw e refl
@@ -181,7 +180,7 @@ kept-places f test vs few =
         neither false = refl
 
 -- the dependences of all places
-pub kept-dependences : (b : BlockGraph) (sets : List (List ℕ)) → length b.vertices ≤ PLACES → sets ≡ map (reaching b.edges) (below (length b.vertices))
+pub kept-dependences : (b : BlockGraph) (sets : List (List ℕ)) → length b.vertices ≤ 512 → sets ≡ map (reaching b.edges) (below (length b.vertices))
     → map (λ set. met set (places_that (λ v. v.inlet) b.vertices)) sets ≡ map (dependences b) (places b)
 kept-dependences b sets few e =
     ap (map (λ set. met set (places_that (λ v. v.inlet) b.vertices))) e
@@ -190,7 +189,7 @@ kept-dependences b sets few e =
     (λ y l. kept-places (λ x. reaches b.edges x y) (λ v. v.inlet) b.vertices few))
 
 -- and their demands
-pub kept-demands : (b : BlockGraph) (sets : List (List ℕ)) → length b.vertices ≤ PLACES → sets ≡ map (reached b.edges) (below (length b.vertices))
+pub kept-demands : (b : BlockGraph) (sets : List (List ℕ)) → length b.vertices ≤ 512 → sets ≡ map (reached b.edges) (below (length b.vertices))
     → map (λ set. met set (places_that (λ v. v.outlet) b.vertices)) sets ≡ map (demands b) (places b)
 kept-demands b sets few e =
     ap (map (λ set. met set (places_that (λ v. v.outlet) b.vertices))) e
@@ -200,7 +199,7 @@ kept-demands b sets few e =
 
 -- what `depends` gives in the end
 pub depends-end : (b : BlockGraph) (vs : List Vertex) (es : Edges) (k : ℕ) (sets news : List (List ℕ)) (ins : List ℕ) → vs ≡ b.vertices → es ≡ b.edges
-    → length b.vertices ≤ PLACES → k ≡ 0 → sets ≡ map (reaching (drop k es)) (below (length vs)) → ins ≡ places_that (λ v. v.inlet) vs
+    → length b.vertices ≤ 512 → k ≡ 0 → sets ≡ map (reaching (drop k es)) (below (length vs)) → ins ≡ places_that (λ v. v.inlet) vs
     → news ≡ map (λ set. met set ins) sets → news ≡ map (dependences b) (places b)
 depends-end b vs es k sets news ins p q few z before i after =
     let first : drop k es ≡ b.edges = ap (λ n. drop n es) z ∙ q in
@@ -211,7 +210,7 @@ depends-end b vs es k sets news ins p q few z before i after =
 
 -- and `demands`
 pub demands-end : (b : BlockGraph) (vs : List Vertex) (es : Edges) (k : ℕ) (sets news : List (List ℕ)) (outs : List ℕ) → vs ≡ b.vertices → es ≡ b.edges
-    → length b.vertices ≤ PLACES → k ≡ 0 → sets ≡ map (reached (drop k es)) (below (length vs)) → outs ≡ places_that (λ v. v.outlet) vs
+    → length b.vertices ≤ 512 → k ≡ 0 → sets ≡ map (reached (drop k es)) (below (length vs)) → outs ≡ places_that (λ v. v.outlet) vs
     → news ≡ map (λ set. met set outs) sets → news ≡ map (demands b) (places b)
 demands-end b vs es k sets news outs p q few z before i after =
     let first : drop k es ≡ b.edges = ap (λ n. drop n es) z ∙ q in

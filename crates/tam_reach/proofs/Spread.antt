@@ -77,7 +77,7 @@ abbrev pub reached : Edges → ℕ → List ℕ
 reached es x = places_where (λ y. reaches es x y)
 
 -- what reaches the giver reaches what the taker reaches
-spread-reaching : (e : ℕ × ℕ) (es : Edges) (y : ℕ) → e.1 < 128 → spread_into e.1 (reaching es e.0) (reaching es y) ≡ reaching (e ∷ es) y
+spread-reaching : (e : ℕ × ℕ) (es : Edges) (y : ℕ) → e.1 < 512 → spread_into e.1 (reaching es e.0) (reaching es y) ≡ reaching (e ∷ es) y
 spread-reaching e es y l = go (reaches es e.1 y) refl
   where
     each : (x : ℕ) (s t : Bool) → reaches es x y ≡ s → reaches es x e.0 ≡ t → reaches es e.1 y ≡ true → (reaches es x y || reaches es x e.0) ≡ reaches
@@ -101,7 +101,7 @@ spread-reaching e es y l = go (reaches es e.1 y) refl
         (places-same (λ x. reaches es x y) (λ x. reaches (e ∷ es) x y) (λ x m. same x (reaches es x y) (reaches es x e.0) refl refl r))
 
 -- what reaches the giver reaches what the taker reaches
-spread-reached : (e : ℕ × ℕ) (es : Edges) (x : ℕ) → e.0 < 128 → spread_into e.0 (reached es e.1) (reached es x) ≡ reached (e ∷ es) x
+spread-reached : (e : ℕ × ℕ) (es : Edges) (x : ℕ) → e.0 < 512 → spread_into e.0 (reached es e.1) (reached es x) ≡ reached (e ∷ es) x
 spread-reached e es x l = go (reaches es x e.0) refl
   where
     each : (y : ℕ) (s : Bool) → reaches es x y ≡ s → reaches es x e.0 ≡ true → (reaches es x y || reaches es e.1 y) ≡ reaches (e ∷ es) x y
@@ -151,7 +151,7 @@ pub edge-next : (es : Edges) (k j : ℕ) (d : ℕ × ℕ) → k < length es → 
 edge-next es k j d h e = drop_more es k d h ∙ ap (λ n. get_or es k d ∷ drop n es) (sym e)
 
 -- a step of `depends`
-pub depends-step : (n : ℕ) (es fs : Edges) (e : ℕ × ℕ) (olds news : List (List ℕ)) → n ≤ 128 → fs ≡ e ∷ es → e.0 < n → e.1 < n
+pub depends-step : (n : ℕ) (es fs : Edges) (e : ℕ × ℕ) (olds news : List (List ℕ)) → n ≤ 512 → fs ≡ e ∷ es → e.0 < n → e.1 < n
     → olds ≡ map (reaching es) (below n) → news ≡ map (spread_into e.1 (get_or olds e.0 [])) olds → news ≡ map (reaching fs) (below n)
 depends-step n es fs e olds news few next s t before after =
     let more : get_or olds e.0 [] ≡ reaching es e.0 = ap (λ l. get_or l e.0 []) before ∙ get-map-below (reaching es) n e.0 [] s in
@@ -162,7 +162,7 @@ depends-step n es fs e olds news few next s t before after =
     ∙ ap (λ gs. map (reaching gs) (below n)) (sym next))))
 
 -- a step of `demands`
-pub demands-step : (n : ℕ) (es fs : Edges) (e : ℕ × ℕ) (olds news : List (List ℕ)) → n ≤ 128 → fs ≡ e ∷ es → e.0 < n → e.1 < n
+pub demands-step : (n : ℕ) (es fs : Edges) (e : ℕ × ℕ) (olds news : List (List ℕ)) → n ≤ 512 → fs ≡ e ∷ es → e.0 < n → e.1 < n
     → olds ≡ map (reached es) (below n) → news ≡ map (spread_into e.0 (get_or olds e.1 [])) olds → news ≡ map (reached fs) (below n)
 demands-step n es fs e olds news few next s t before after =
     let more : get_or olds e.1 [] ≡ reached es e.1 = ap (λ l. get_or l e.1 []) before ∙ get-map-below (reached es) n e.1 [] t in

@@ -43,7 +43,7 @@ pub fn demands(alloc: Global, b: &BlockGraph) -> Result<Vec<Set>, NoMemory>
 
 // For each place the set of it alone.
 fn each_alone(alloc: Global, count: u32) -> Result<Vec<Set>, NoMemory>
-    requires few { count ≤ 128 }
+    requires few { count ≤ 512 }
     ensures value { IfOk result (λ sets. sets.items ≡ map (λ y. places_where (λ x. x == y)) (below count)) }
 {
     let mut sets = Vec::new(alloc);
@@ -81,7 +81,7 @@ fn keep(sets: &mut [Set], other: &Set)
 
 // The places of the inlets.
 fn inlets(vertices: &[Vertex]) -> Set
-    requires few { length vertices.now ≤ 128 }
+    requires few { length vertices.now ≤ 512 }
     ensures value { result ≡ places_that (λ v. v.inlet) vertices.now }
 {
     let mut inlets = Set::empty();
@@ -95,7 +95,7 @@ fn inlets(vertices: &[Vertex]) -> Set
 
 // The places of the outlets.
 fn outlets(vertices: &[Vertex]) -> Set
-    requires few { length vertices.now ≤ 128 }
+    requires few { length vertices.now ≤ 512 }
     ensures value { result ≡ places_that (λ v. v.outlet) vertices.now }
 {
     let mut outlets = Set::empty();

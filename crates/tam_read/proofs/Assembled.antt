@@ -6,7 +6,10 @@ use Rattle.tam_graph.specs.Graphs.{Code, Graph, graph_of, code_of, or_code}
 use Rattle.tam_graph.specs.Reading.{IsCode, IsCodeOfText, IsOfText, Reads}
 use Rattle.tam_read.specs.declared.part.Part.{Part as Fields}
 use Rattle.tam_read.specs.Faults.{faults}
-use Rattle.tam_read.specs.Parts.{Part, parts_in}
+use Rattle.tam_text.specs.Lines.{lines_of}
+use Rattle.tam_read.specs.Faults.{said_from}
+use Rattle.tam_read.specs.Tables.{Entries}
+use Rattle.tam_read.specs.Parts.{Part, Piece, parts_in, part_made, pieces, node_lines, codes_in}
 use Rattle.tam_read.specs.PartView.{part, code_of_part, lines_of_part}
 use Rattle.tam_read.specs.Placed.{lines_in}
 use Rattle.tam_read.proofs.ReadCodes.{codes_read}
@@ -39,13 +42,20 @@ lines-of-parts : (ps : List Fields) → map lines_of_part ps ≡ map (λ p. (p.l
 lines-of-parts [] = refl
 lines-of-parts (p ∷ ps) = ap (λ ls. lines_of_part p ∷ ls) (lines-of-parts ps)
 
+-- the lines of what is made of codes are those of the codes
+lines-of-pieces : (codes : Entries) (qs : List Piece) → map {B = ℕ × List ℕ} (λ p. (p.line, p.lines)) (map (part_made codes) qs)
+    ≡ map (λ q. (q.line, node_lines q.body)) qs
+lines-of-pieces codes [] = refl
+lines-of-pieces codes (q ∷ qs) = ap (λ ls. (q.line, node_lines q.body) ∷ ls) (lines-of-pieces codes qs)
+
 -- the codes of a text
 pub codes-are : (bytes : List ℕ) (ps : List Fields) → map part ps ≡ parts_in bytes → map code_of_part ps ≡ codes_read bytes
 codes-are bytes ps e = codes-of-parts ps ∙ ap (map (λ p. p.code)) e
 
 -- and the lines of their places
 pub lines-are : (bytes : List ℕ) (ps : List Fields) → map part ps ≡ parts_in bytes → map lines_of_part ps ≡ lines_in bytes
-lines-are bytes ps e = lines-of-parts ps ∙ ap (map (λ p. (p.line, p.lines))) e
+lines-are bytes ps e =
+    lines-of-parts ps ∙ (ap (map (λ p. (p.line, p.lines))) e ∙ lines-of-pieces (codes_in (said_from 1 (lines_of bytes))) (pieces (said_from 1 (lines_of bytes))))
 
 -- the text reads as their graph
 pub parts-read : (bytes : List ℕ) (ps : List Fields) → map part ps ≡ parts_in bytes → faults bytes ≡ [] → Reads bytes (graph_of (map code_of_part ps))

@@ -335,15 +335,16 @@ module _ (q : Known) (t : Tree) (c : Code) (of : IsOfTree q t c) where
       ∙ tree-counted c q d t 0 0 1 of.fits (stands q t c of)
 
 module _ (q : Known) (t : Tree) (c : Code) (of : IsOfTree q t c) (bound : Bounded t 0 0) where
-  pub blocks-small : all_of (λ b. nat_lt (number_of_vertices c b) 129) (blocks_of c) ≡ true
-  blocks-small = in-all (λ b. nat_lt (number_of_vertices c b) 129) (blocks_of c) (λ d i.
+  -- no block has more vertices than a text may give it
+  pub blocks-small : (n : ℕ) → 128 < n → all_of (λ b. nat_lt (number_of_vertices c b) n) (blocks_of c) ≡ true
+  blocks-small n above = in-all (λ b. nat_lt (number_of_vertices c b) n) (blocks_of c) (λ d i.
       let within : d < length c.owners = in-below d (length c.owners) i in
       let many : number_of_vertices c d ≡ counted d t 0 1 = vertices-are q t c of d in
       let blocks = few-blocks q t c of in
       let few : counted d t 0 1 ≤ 128 = ⊎_elim
       (λ (z : d < 1). let is : 0 ≡ d = omega arith in subst (λ w. counted w t 0 1 ≤ 128) is (outer-few t 0 bound))
       (λ (z : 1 ≤ d). inner-few d t 0 1 0 0 (omega arith) bound z (omega arith)) (cases_lt d 1) in
-      below-test (number_of_vertices c d) 129 (omega arith))
+      below-test (number_of_vertices c d) n (omega arith))
 
   pub code-small : vertices (flat t) ≤ 1024 → nat_lt (sum_by (number_of_vertices c) (blocks_of c)) 1025 ≡ true
   code-small few =

@@ -9,7 +9,7 @@ use Rattle.tam_text.specs.Lines.{lines_of, words_of, token_lines}
 use Rattle.tam_text.specs.Names.{is_name}
 use Rattle.tam_graph.specs.Graphs.{Code, Graph, graph_of, code_of, or_code}
 use Rattle.tam_graph.specs.Texts.{Bytes, Line, graph_lines, code_lines}
-use Rattle.tam_graph.specs.Reading.{same_line, same_lines, is_named_right, IsCodeOfText, IsOfText, Reads}
+use Rattle.tam_graph.specs.Reading.{same_line, same_lines, has_short_blocks, is_named_right, IsCodeOfText, IsOfText, Reads}
 use Rattle.tam_read.specs.declared.form.Role.TheVariants as role
 use Rattle.tam_read.specs.Sentences.{Sentence, sentence_of}
 use Rattle.tam_read.specs.Faults.{is_head, said, said_from, sayings, faults, first_pass, last_line}
@@ -99,7 +99,8 @@ module _ (bytes : List ℕ) (g : Graph) (r : Reads bytes g) where
     clean : AreClean [] (lines_of_codes ds) × (open_after (put_before [] (lines_of_codes ds)) ≡ [])
     clean =
         codes-clean-back [] ds refl
-        (λ d i. let k = said-there g g.codes ds said d i in cleanable g (length g.codes) few k.0 (named k.0 k.1) (of-text k.0 k.1) d k.2 (entries_of ds) known)
+        (λ d i. let k = said-there g g.codes ds said d i in cleanable g (length g.codes) few k.0 (named k.0 k.1) (of-text k.0 k.1) d k.2 (entries_of ds) known
+        (all-in has_short_blocks g.codes r.short k.0 k.1))
         (new-codes g [] g.codes ds said r.text.codes_differ (λ n p q. q) (let f = few in omega arith))
 
     all-parsed : AreParsed (lines_of_codes ds)

@@ -4,12 +4,12 @@ use Rattle.std.proofs.Common.{subst, ◌∙◌, arith, inl}
 use Rattle.std.specs.Prelude.{slice_get, codes as bytes_of}
 use Rattle.std.specs.List.{filter}
 use Rattle.tam_word.specs.Lists.{all_differ, same_bytes}
-use Rattle.tam_word.proofs.Members.{In, get-in}
+use Rattle.tam_word.proofs.Members.{In, get-in, in-all, in-map}
 use Rattle.tam_text.specs.Lines.{lines_of, words_of, token_lines, is_some_of, are_good_bytes}
 use Rattle.tam_graph.specs.Graphs.{Code, Graph, graph_of, code_of, or_code}
 use Rattle.tam_graph.specs.Texts.{Line, Bytes, graph_lines, code_lines}
 use Rattle.tam_graph.specs.Written.{IsWritten}
-use Rattle.tam_graph.specs.Reading.{same_lines, IsCodeOfText, IsOfText, Reads}
+use Rattle.tam_graph.specs.Reading.{same_lines, has_short_blocks, is_short, IsCodeOfText, IsOfText, Reads}
 use Rattle.tam_read.specs.Sentences.{Sentence, has_form, code_begun}
 use Rattle.tam_read.specs.Faults.{vertices, faults, said, said_from, sayings, opened}
 use Rattle.tam_read.specs.Parts.{or_nameless}
@@ -69,7 +69,7 @@ module _ (bytes : List ℕ) (none : faults bytes ≡ []) where
           lines = lines-right ds d good;
           depths = depths-right ds d good;
           shallow = blocks-shallow (known_of es d) d.body c of bound;
-          small_blocks = blocks-small (known_of es d) d.body c of bound;
+          small_blocks = blocks-small (known_of es d) d.body c of bound 513 (omega arith);
           small = code-small (known_of es d) d.body c of bound few;
         };
         named = head-named d good.head (names-right d.head (clean-parts head.0 d.head head.1).names).1;
@@ -77,6 +77,20 @@ module _ (bytes : List ℕ) (none : faults bytes ≡ []) where
         nodes_differ = code-names-differ ds d good (names-differ (d.head ∷ k.before) (body_lines d)
             (clean-front (d.head ∷ k.before) (body_lines d) k.rest k.clean.1) (body-no-code d));
       }
+
+  -- with blocks no larger than a text's
+  code-short : (d : CodeLines) → In d (read bytes none).lines → has_short_blocks (code_of_lines (entries_of (read bytes none).lines) d) ≡ true
+  code-short d i =
+      let ds = (read bytes none).lines in
+      let es = entries_of ds in
+      let k = codes-clean [] ds refl (read bytes none).clean d i in
+      blocks-small (known_of es d) d.body (code_of_lines es d) (code-of-tree es d) (code-bounded d k).bounded 129 (omega arith)
+
+  all-short : is_short (graph_read (read bytes none).lines) ≡ true
+  all-short =
+      let ds = (read bytes none).lines in
+      in-all has_short_blocks (map (code_of_lines (entries_of ds)) ds) (λ c i. let m = in-map (code_of_lines (entries_of ds)) c ds i in
+      subst (λ z. has_short_blocks z ≡ true) m.2 (code-short m.0 m.1))
 
   each : (n : ℕ) → n < length (map (code_of_lines (entries_of (read bytes none).lines)) (read bytes none).lines)
       → IsCodeOfText (length (map (code_of_lines (entries_of (read bytes none).lines)) (read bytes none).lines))
@@ -122,5 +136,6 @@ module _ (bytes : List ℕ) (none : faults bytes ≡ []) where
   faultless-reads = subst (λ g. Reads bytes g) graph-is (record {
     good = lines-good bytes (all-good _ [] 1 (lines_of bytes) (first-faultless bytes none));
     text = graph-of-text;
+    short = all-short;
     lines = lines-spelled;
   })

@@ -13,7 +13,7 @@ use Rattle.tam_text.specs.Names.{is_name}
 use Rattle.tam_graph.specs.Graphs.{Code, Graph, graph_of, code_of, or_code, main_among, blocks_of, owner_of, one_or_none}
 use Rattle.tam_graph.specs.Texts.{Bytes, Line, graph_lines, code_lines}
 use Rattle.tam_graph.specs.Written.{depth_of_block, number_of_vertices}
-use Rattle.tam_graph.specs.Reading.{same_line, same_lines, is_named_right, names_in, given_names, IsCode, IsCodeOfText, IsOfText, Reads}
+use Rattle.tam_graph.specs.Reading.{same_line, same_lines, has_short_blocks, is_named_right, names_in, given_names, IsCode, IsCodeOfText, IsOfText, Reads}
 use Rattle.tam_text.proofs.SameBytes.{same_self, same_equal}
 use Rattle.tam_graph.proofs.NodeNames.{differ-behind}
 use Rattle.tam_graph.proofs.Visited.{size, opened}
@@ -238,8 +238,8 @@ module _ (g : Graph) (codes : ℕ) (few : codes ≤ 256) (c : Code) (are : AreNa
       alike [] = refl
       alike (x ∷ xs) = ap₂ (λ a b. a + b) (vertices-are (known_of es d) d.body c of-tree x) (alike xs)
 
-  bounded : Bounded d.body 0 0
-  bounded =
+  bounded : has_short_blocks c ≡ true → Bounded d.body 0 0
+  bounded short =
       let q = known_of es d in
       let long : length c.owners ≡ suc (opened (shape d.body)) = few-blocks (known_of es d) d.body c of-tree in
       let holds = holds-back g codes c are (node-right codes c of) a_code (body_lines d) lined es known d.body said.numbered.tree 0 0 1 said.same
@@ -252,7 +252,7 @@ module _ (g : Graph) (codes : ℕ) (few : codes ≤ 256) (c : Code) (are : AreNa
       omega arith) in
       let small : (z : ℕ) → z < length c.owners → counted z d.body 0 1 ≤ 128 = λ z l.
       (let i : number_of_vertices c z < 129 =
-      ltb-true _ 129 (all-in (λ b. nat_lt (number_of_vertices c b) 129) (blocks_of c) of.written.small_blocks z (below-in z (length c.owners) l)) in
+      ltb-true _ 129 (all-in (λ b. nat_lt (number_of_vertices c b) 129) (blocks_of c) short z (below-in z (length c.owners) l)) in
       let e = vertices-are q d.body c of-tree z in omega (arith, i, e)) in
       let outer = small 0 (omega (arith, long)) in
       bounded-back c q (length c.owners) d.body 0 0 1 0 0 holds owned (omega arith) (omega arith) (omega (arith, long)) (top first) shallow
@@ -263,8 +263,8 @@ module _ (g : Graph) (codes : ℕ) (few : codes ≤ 256) (c : Code) (are : AreNa
       top e (suc f) l = let own : owner_of c 0 ≡ [] = ap one_or_none e in rw (depth_of_block, own) refl
 
   -- so its lines may be clean
-  pub cleanable : IsCleanable d
-  cleanable =
+  pub cleanable : has_short_blocks c ≡ true → IsCleanable d
+  cleanable short =
       let names : all_differ same_bytes (flat_map names_made (flat d.body)) ≡ true =
       ap (all_differ same_bytes) (sym (ap (λ ns. given_names (map (λ n. n.name) ns)) nodes-are
       ∙ tree-names (known_of es d) d.body 0 1 d.fits (λ s i. good-line s (left-in s (flat d.body) (d.close ∷ []) i)))) ∙ of.nodes_differ in
@@ -275,7 +275,7 @@ module _ (g : Graph) (codes : ℕ) (few : codes ≤ 256) (c : Code) (are : AreNa
       ∙ append-nil (flat_map names_made (flat d.body)) in
       let no_vertex : vertices (d.close ∷ []) ≡ 0 = ap (λ s. vertices (s ∷ [])) said.close in
       record {
-        bounded = bounded;
+        bounded = bounded short;
         differ = differ-lines (body_lines d) (ap (all_differ same_bytes) all ∙ names);
         few = (let v = vertices-append (flat d.body) (d.close ∷ []) in let f = vertices-few in omega (arith, v, no_vertex, f));
         right = right;

@@ -2,7 +2,9 @@
 use Rattle.std.specs.Prelude.{ℕ, List, [], ◌∷◌, map, slice_get, Option, Some, None}
 use Rattle.tam_graph.specs.declared.place.Place.{Place}
 use Rattle.tam_graph.specs.declared.place.Place.TheVariants.{File, Code, Node}
-use Rattle.tam_read.specs.Parts.{Part, parts_in}
+use Rattle.tam_text.specs.Lines.{lines_of}
+use Rattle.tam_read.specs.Faults.{said_from}
+use Rattle.tam_read.specs.Parts.{pieces, node_lines}
 
 -- for each code its line and those of its nodes
 abbrev pub PlaceLines : Type 0
@@ -29,6 +31,7 @@ line_at lines File = 1
 line_at lines (Code c) = code_line (slice_get lines c)
 line_at lines (Node c x) = node_line (slice_get lines c) x
 
--- the lines of the places of the graph that a text reads as
+-- the lines of the places of the graph that a text reads as: the c-th code stands at the c-th line that begins one, and its x-th node at the x-th node
+-- line behind that
 abbrev pub lines_in : List ℕ → PlaceLines
-lines_in bytes = map (λ p. (p.line, p.lines)) (parts_in bytes)
+lines_in bytes = map (λ q. (q.line, node_lines q.body)) (pieces (said_from 1 (lines_of bytes)))

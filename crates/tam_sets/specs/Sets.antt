@@ -1,11 +1,10 @@
 -- Sets of places as rising lists of their members.
 use Rattle.std.specs.Prelude.{ℕ, Bool, ◌&&◌, ◌||◌, ◌==◌, List, filter}
 use Rattle.tam_word.specs.Lists.{below, all_of, has}
-use Rattle.tam_sets.specs.declared.set.TheConstants.{PLACES}
 
 -- the numbers of all places
 unfoldable pub place_numbers : List ℕ
-place_numbers = below PLACES
+place_numbers = below 512
 
 -- the places that pass a test, rising
 unfoldable pub places_where : (ℕ → Bool) → List ℕ

@@ -6,13 +6,13 @@ ghost use Rattle.tam_sets.specs.Sets.{places_where, with_place, met, joined, is_
 use std::marker::Model;
 
 /// How many places there are.
-pub const PLACES: u32 = 128;
+pub const PLACES: u32 = 512;
 
 /// A set of places below `PLACES`.
 #[derive(Clone, Copy, Debug, PartialEq, Eq)]
 pub struct Set {
-    /// The bit of a place is 1 where the place is a member.
-    bits: u128,
+    /// The bit of a place is 1 where the place is a member; a word has 64 places.
+    words: [u64; 8],
 }
 
 impl Model for Set {
@@ -36,45 +36,54 @@ impl Set {
     pub fn empty() -> Set
         ensures value { result ≡ [] }
     {
-        Set { bits: 0 }
+        Set { words: [0; 8] }
     }
 
     pub fn insert(&mut self, place: u32)
-        requires in_range { place < PLACES }
+        requires in_range { place < 512 }
         ensures value { self.new ≡ with_place place self.old }
     {
-        self.bits |= 1 << place;
+        self.words[place as usize / 64] |= 1 << (place % 64);
     }
 
     pub fn has(&self, place: u32) -> bool
         ensures value { result ≡ has self.now place }
         ensures members { self.now ≡ places_where (has self.now) }
     {
-        place < PLACES && (self.bits >> place) & 1 == 1
+        place < PLACES && (self.words[place as usize / 64] >> (place % 64)) & 1 == 1
     }
 
     /// The places that are in both.
     pub fn meet(&self, o: &Set) -> Set
         ensures value { result ≡ met self.now o.now }
     {
-        Set {
-            bits: self.bits & o.bits,
+        let mut words = self.words;
+        for k in 0..8 {
+            words[k] &= o.words[k];
         }
+        Set { words }
     }
 
     /// The places that are in either.
     pub fn join(&self, o: &Set) -> Set
         ensures value { result ≡ joined self.now o.now }
     {
-        Set {
-            bits: self.bits | o.bits,
+        let mut words = self.words;
+        for k in 0..8 {
+            words[k] |= o.words[k];
         }
+        Set { words }
     }
 
     /// Whether each of its places is in the other.
     pub fn within(&self, o: &Set) -> bool
         ensures value { result ≡ is_within self.now o.now }
     {
-        self.bits & !o.bits == 0
+        for k in 0..8 {
+            if self.words[k] & !o.words[k] != 0 {
+                return false;
+            }
+        }
+        true
     }
 }

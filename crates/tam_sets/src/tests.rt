@@ -16,8 +16,8 @@ fn sets_are_met_and_joined(rt: HostRuntime) {
     let cases: [(&[u32], &[u32], &[u32], &[u32], bool); 6] = [
         (&[], &[], &[], &[], true),
         (&[], &[5], &[], &[5], true),
-        (&[127], &[0], &[], &[0, 127], false),
-        (&[0, 64, 127], &[127, 64], &[64, 127], &[0, 64, 127], false),
+        (&[511], &[0], &[], &[0, 511], false),
+        (&[0, 64, 511], &[511, 64], &[64, 511], &[0, 64, 511], false),
         (&[3, 70], &[70, 3, 9], &[3, 70], &[3, 9, 70], true),
         (&[1, 2], &[2, 1], &[1, 2], &[1, 2], true),
     ];
@@ -31,9 +31,9 @@ fn sets_are_met_and_joined(rt: HostRuntime) {
 
 #[test]
 fn a_set_has_its_places(rt: HostRuntime) {
-    let three = set(&[0, 63, 127]);
-    for place in 0..130 {
-        let is_one = place == 0 || place == 63 || place == 127;
+    let three = set(&[0, 63, 511]);
+    for place in 0..520 {
+        let is_one = place == 0 || place == 63 || place == 511;
         assert_eq!(rt; three.has(place), is_one, "at {place}");
     }
     assert!(rt; !three.has(u32::MAX));

@@ -58,7 +58,7 @@ least-single n = go (below n)
     go (x ∷ xs) = ap (λ ys. x ∷ ys) (go xs)
 
 -- the type keeps what it keeps
-single-kept : (n : ℕ) → n ≤ 128 → AreClasses (single n)
+single-kept : (n : ℕ) → n ≤ 512 → AreClasses (single n)
 single-kept n few =
     let long : length (concat (single n)) ≡ n = ap length (concat-single n) ∙ length-below n in record {
       few = omega arith;
@@ -70,7 +70,7 @@ single-kept n few =
     }
 
 -- the classes as they are stored
-pub single-flat : (n : ℕ) → n ≤ 128 → AreFlat (cut_from 0 (below n) (ends_from 0 (single n))) (below n) (ends_from 0 (single n))
+pub single-flat : (n : ℕ) → n ≤ 512 → AreFlat (cut_from 0 (below n) (ends_from 0 (single n))) (below n) (ends_from 0 (single n))
 single-flat n few =
     subst (λ ps. AreFlat ps (below n) (ends_from 0 (single n))) (sym (single-cut n))
     (record { places_of = sym (concat-single n); ends_of = refl; classes = single-kept n few })

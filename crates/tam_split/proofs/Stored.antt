@@ -23,11 +23,11 @@ use Rattle.tam_split.proofs.Merged.{none-in_both, united-kept}
 pub record Stands_from (ps : Parts) (places : List ℕ) (k start end : ℕ) : Type 0 where
   pub ordered : start ≤ end
   pub inside : end ≤ length places
-  pub few : length places ≤ 128
+  pub few : length places ≤ 512
   pub class : slice_range places start end ≡ class_at ps k
 
 -- behind others
-behind-stands : (ps : Parts) (q : List ℕ) (qs : Parts) (n : ℕ) → length (concat (ps ++ q ∷ qs)) ≤ 128 → n ≡ length ps
+behind-stands : (ps : Parts) (q : List ℕ) (qs : Parts) (n : ℕ) → length (concat (ps ++ q ∷ qs)) ≤ 512 → n ≡ length ps
     → Stands_from (ps ++ q ∷ qs) (concat (ps ++ q ∷ qs)) n (get_or (0 ∷ ends_from 0 (ps ++ q ∷ qs)) n 0) (get_or (ends_from 0 (ps ++ q ∷ qs)) n 0)
 behind-stands ps q qs n few e =
     let es = ends_from 0 (ps ++ q ∷ qs) in
@@ -51,7 +51,7 @@ pub class-stands_from : (ps : Parts) (places ends : List ℕ) → AreFlat ps pla
 class-stands_from ps places ends flat k h start end a b =
     let r = around ps k h in
     let whole : ps ≡ r.before ++ r.here ∷ r.behind = r.all in
-    let few : length (concat (r.before ++ r.here ∷ r.behind)) ≤ 128 = subst (λ rs. length (concat rs) ≤ 128) whole flat.classes.few in
+    let few : length (concat (r.before ++ r.here ∷ r.behind)) ≤ 512 = subst (λ rs. length (concat rs) ≤ 512) whole flat.classes.few in
     let there = behind-stands r.before r.here r.behind k few (sym r.number) in
     let back : Stands_from ps (concat ps) k (get_or (0 ∷ ends_from 0 ps) k 0) (get_or (ends_from 0 ps) k 0) =
     subst (λ rs. Stands_from rs (concat rs) k (get_or (0 ∷ ends_from 0 rs) k 0) (get_or (ends_from 0 rs) k 0)) (sym whole) there in
@@ -70,7 +70,7 @@ class-bounds places ends k flat h ds e start end a b =
     class-stands_from (cut_from 0 places ends) places ends flat k h start end (a ∙ ap (λ l. get_or (0 ∷ l) k 0) e) (b ∙ ap (λ l. get_or l k 0) e)
 
 -- there are no more classes than places
-pub few-classes : (ps : Parts) → AreClasses ps → length ps ≤ 128
+pub few-classes : (ps : Parts) → AreClasses ps → length ps ≤ 512
 few-classes ps kept = let l : length ps ≤ length (concat ps) = go ps kept.none_empty in let f = kept.few in omega arith
   where
     go : (qs : Parts) → all_of (λ q. nat_lt 0 (length q)) qs ≡ true → length qs ≤ length (concat qs)
@@ -82,7 +82,7 @@ few-classes ps kept = let l : length ps ≤ length (concat ps) = go ps kept.none
         omega (arith, length-append q (concat qs))
 
 -- each end is at most the number of places
-pub ends-few : (ps : Parts) (places ends : List ℕ) → AreFlat ps places ends → (e : ℕ) → In e ends → e ≤ 128
+pub ends-few : (ps : Parts) (places ends : List ℕ) → AreFlat ps places ends → (e : ℕ) → In e ends → e ≤ 512
 ends-few ps places ends flat e i =
     let f = flat.classes.few in let l : e ≤ 0 + length (concat ps) = go 0 ps (subst (λ es. In e es) flat.ends_of i) in omega arith
   where
@@ -99,7 +99,7 @@ pub record Runs (ps : Parts) (places : List ℕ) (a b from middle start end : �
   pub between : middle ≤ start
   pub second : start ≤ end
   pub inside : end ≤ length places
-  pub few : length places ≤ 128
+  pub few : length places ≤ 512
   pub apart : AreApart (slice_range places from middle) (slice_range places start end)
 
 -- ---- the ends behind a merge
@@ -365,11 +365,11 @@ pub flat-again : (ps : Parts) (places ends : List ℕ) → AreFlat ps places end
 flat-again ps places ends flat = subst (λ qs. AreFlat qs places ends) (sym (flat-cut ps places ends flat)) flat
 
 -- no end is so late that moving it on overflows
-pub ends-fit : (ps : Parts) (places ends : List ℕ) → AreFlat ps places ends → (by : ℕ) → by ≤ 128 → All (λ e. e + by < 2 ^ 32) ends
+pub ends-fit : (ps : Parts) (places ends : List ℕ) → AreFlat ps places ends → (by : ℕ) → by ≤ 512 → All (λ e. e + by < 2 ^ 32) ends
 ends-fit ps places ends flat by h =
-    All-from_recursion (λ e. e + by < 2 ^ 32) ends (in-each (λ e. e + by < 2 ^ 32) ends (λ e i. let l : e ≤ 128 = ends-few ps places ends flat e i in fits e l))
+    All-from_recursion (λ e. e + by < 2 ^ 32) ends (in-each (λ e. e + by < 2 ^ 32) ends (λ e i. let l : e ≤ 512 = ends-few ps places ends flat e i in fits e l))
   where
-    fits : (e : ℕ) → e ≤ 128 → e + by < 2 ^ 32
+    fits : (e : ℕ) → e ≤ 512 → e + by < 2 ^ 32
     fits e l = omega arith
 
 -- what the code leaves of the ends

@@ -8,7 +8,7 @@ use Rattle.tam_split.specs.Partitions.{Parts, class_of, class_at}
 
 -- the graph of a block with no more vertices than a block may have
 pub record IsSmallBlock (b : BlockGraph) : Type 0 where
-  pub few : length b.vertices ≤ 128
+  pub few : length b.vertices ≤ 512
   pub block : IsBlockGraph b
 
 -- each number is below all behind it
@@ -22,9 +22,9 @@ pub record HaveEach (n : ℕ) (ps : Parts) : Type 0 where
   pub only_one : (k l x : ℕ) → IsTrue (has (class_at ps k) x) → IsTrue (has (class_at ps l) x) → k ≡ l
   pub inside : (k x : ℕ) → IsTrue (has (class_at ps k) x) → x < n
 
--- classes of at most 128 places: each place once, no class empty, each rising, ordered by their least places
+-- classes of at most 512 places: each place once, no class empty, each rising, ordered by their least places
 pub record AreClasses (ps : Parts) : Type 0 where
-  pub few : length (concat ps) ≤ 128
+  pub few : length (concat ps) ≤ 512
   pub each_once : HaveEach (length (concat ps)) ps
   pub none_empty : all_of (λ p. nat_lt 0 (length p)) ps ≡ true
   pub rising : all_of is_rising ps ≡ true

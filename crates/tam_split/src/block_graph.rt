@@ -45,7 +45,7 @@ pub fn split(alloc: Global, g: &Accepted, code: u32, block: u32) -> Result<Block
 impl BlockGraph {
     pub fn vertices(&self) -> &[Vertex]
         ensures value { result.now ≡ self.now.vertices }
-        ensures few { length self.now.vertices ≤ 128 }
+        ensures few { length self.now.vertices ≤ 512 }
         ensures block { IsBlockGraph self.now }
     {
         &self.vertices

@@ -58,7 +58,7 @@ pub(crate) fn edges_among(
     code: &Code,
     vertices: &[Vertex],
 ) -> Result<Vec<(u32, u32)>, NoMemory>
-    requires few { length vertices.now ≤ 128 }
+    requires few { length vertices.now ≤ 512 }
     ensures value { IfOk result (λ edges. edges.items ≡ edges_among code.now vertices.now) }
 {
     let mut edges = Vec::new(alloc);
@@ -76,7 +76,7 @@ fn push_edges_from(
     place: u32,
     giver: Vertex,
 ) -> Result<(), NoMemory>
-    requires few { length vertices.now ≤ 128 }
+    requires few { length vertices.now ≤ 512 }
     ensures value { OnOk result (edges.new.items ≡ edges.old.items ++ edges_from code.now (placed_from 0 vertices.now) (place, giver)) }
 {
     for (taking, taker) in vertices.iter().enumerate() {

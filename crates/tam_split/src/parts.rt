@@ -8,7 +8,7 @@ use std::alloc::Global;
 use std::marker::Model;
 use tam_edge::NoMemory;
 
-/// The classes of a block of at most 128 places, ordered by their least places.
+/// The classes of a block of at most 512 places, ordered by their least places.
 #[derive(Debug, Drop)]
 pub struct Parts {
     /// The places of all classes, one class behind the other.
@@ -31,7 +31,7 @@ impl Model for Parts {
 impl Parts {
     /// One class for each place.
     pub fn single(alloc: Global, n: u32) -> Result<Parts, NoMemory>
-        requires few { n ≤ 128 }
+        requires few { n ≤ 512 }
         ensures value { IfOk result (λ parts. parts ≡ single n) }
     {
         let mut places = Vec::new(alloc);

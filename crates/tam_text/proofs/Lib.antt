@@ -1,2 +1,4 @@
 pub mod LineLemmas
 pub mod SameBytes
+pub mod PlainWords
+pub mod WordsCut

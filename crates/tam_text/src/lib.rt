@@ -12,4 +12,4 @@ mod words;
 
 pub use lines::{are_good_bytes, split_line};
 pub use names::{is_name, is_same};
-pub use words::words_of;
+pub use words::{is_blank, without_comment, words_of};

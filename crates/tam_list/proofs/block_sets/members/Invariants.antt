@@ -1,7 +1,6 @@
-use Rattle.std.proofs.Common.{◌≡◌, ◌<◌, filter}
+use Rattle.std.proofs.Common.{◌≡◌, filter}
 use Rattle.tam_word.specs.Lists.{below, has}
-use Rattle.tam_sets.specs.Sets.{places_where}
 use Rattle.tam_list.proofs.block_sets.members.Given as goal
 
 abbrev pub invariant-loop-place : goal.invariant-loop-place
-invariant-loop-place l = (l.places.items ≡ filter (has l.set) (below l.place)) × (0 < l.place → l.set ≡ places_where (has l.set))
+invariant-loop-place l = l.places.items ≡ filter (has l.set) (below l.place)

@@ -1,4 +1,4 @@
-use Rattle.std.proofs.Common.{◌≡◌, ◌<◌, ◌∙◌, length, ap, arith}
+use Rattle.std.proofs.Common.{◌≡◌, ◌∙◌, length, ap, arith}
 use Rattle.tam_split.specs.Blocks.{dependences, demands}
 use Rattle.tam_list.specs.Listings.{sets_line}
 use Rattle.tam_list.proofs.Inside.{one-each, at-place}

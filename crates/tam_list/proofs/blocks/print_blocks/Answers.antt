@@ -1,4 +1,4 @@
-use Rattle.std.proofs.Common.{◌≡◌, []}
+use Rattle.std.proofs.Common.{[]}
 use Rattle.tam_list.specs.Listings.{code_text}
 use Rattle.tam_list.specs.Told.{told_of}
 use Rattle.tam_list.proofs.Appending.{more-below}

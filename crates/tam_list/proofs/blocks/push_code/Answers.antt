@@ -1,4 +1,3 @@
-use Rattle.std.proofs.Common.{◌≡◌}
 use Rattle.tam_graph.specs.Graphs.{code_of}
 use Rattle.tam_list.specs.Listings.{block_text}
 use Rattle.tam_list.specs.Told.{told_of}

@@ -1,4 +1,4 @@
-use Rattle.std.proofs.Common.{◌≡◌, ◌≤◌, ◌+◌, ◌*◌, ◌∙◌, length, sum_by, ap, sym, arith}
+use Rattle.std.proofs.Common.{◌≡◌, ◌∙◌, length, ap, sym, arith}
 use Rattle.tam_graph.specs.Graphs.{Code, code_of, blocks_of}
 use Rattle.tam_graph.proofs.FewNodes.{length-below}
 use Rattle.tam_list.proofs.CodeSizes.{sum-more}

@@ -1,4 +1,4 @@
-use Rattle.std.proofs.Common.{◌≡◌, ◌++◌, ◌∙◌, ap, get_or, append_assoc}
+use Rattle.std.proofs.Common.{◌++◌, ◌∙◌, ap, get_or, append_assoc}
 use Rattle.std.proofs.lemmas.List.{get_or_default}
 use Rattle.tam_list.specs.Listings.{place_text}
 use Rattle.tam_list.proofs.Appending.{more-taken}

@@ -27,5 +27,5 @@ returns c =
     ∙ sym (canonical-is g) in
     record {
       value = whole;
-      reads = subst (λ (t : List ℕ). Reads t g) (sym whole) (c.law_canonical.ensures.reads g c.codes-n-end.ensures.of_text);
+      reads = λ short. subst (λ (t : List ℕ). Reads t g) (sym whole) (c.law_canonical.ensures.reads g c.codes-n-end.ensures.of_text short);
     }

@@ -19,7 +19,7 @@ loop-place-preserved c =
       | then-is_led_to w ↦
           let led : is_led_to b c.args.classes.now c.args.ahead.now o ≡ true = sym c.is_led_to.ensures.value ∙ w.if-is_led_to.true in
           let read = get_or_read c.args.depends.now o w.index-depends-place.result low w.index-depends-place.is [] in
-          let at : (i : ℕ) → i < 128 → test i o ≡ has w.index-depends-place.result i = λ i l. rw (is_met, led) (ap (λ xs. has xs i) (sym read)) in
+          let at : (i : ℕ) → i < 512 → test i o ≡ has w.index-depends-place.result i = λ i l. rw (is_met, led) (ap (λ xs. has xs i) (sym read)) in
           w.set-is ∙ (w.meet-set.ensures.value ∙ (ap (λ xs. met xs w.index-depends-place.result) c.loop-place.invariant ∙ met-more inlet test o w.index-depends-place.result at))
       | else-is_led_to w ↦
           let led : is_led_to b c.args.classes.now c.args.ahead.now o ≡ false = sym c.is_led_to.ensures.value ∙ w.if-is_led_to.false in

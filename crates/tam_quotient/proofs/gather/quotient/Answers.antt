@@ -1,11 +1,7 @@
 use Rattle.std.proofs.Common.{◌≡◌, [], ◌∷◌, ◌++◌, ◌∙◌, sym, ap, ap₂, arith, length, true, not, is_ok}
-use Rattle.tam_word.specs.Lists.{below}
 use Rattle.tam_quotient.specs.declared.ways.Ways.{Ways}
 use Rattle.tam_quotient.specs.Joins.{ways_of}
 use Rattle.tam_quotient.proofs.Tabling.{map-more, length-table}
-use Rattle.tam_split.proofs.Classes.{partition-parts}
-use Rattle.tam_split.proofs.Validity.{is_valid-valid}
-use Rattle.tam_quotient.proofs.Deciding.{join-may_merge}
 use Rattle.tam_quotient.proofs.Surroundings.{few-classes, are_below, are_leads, leads-count, classes-count, depends-count, in_range, are_ways}
 use Rattle.tam_quotient.proofs.gather.quotient.Goals as goal
 
@@ -72,10 +68,3 @@ returns-clause-few c =
     let n : length c.loop-k.ways.items ≡ c.loop-k.k = ap length c.loop-k.invariant ∙ length-table (ways_of c.args.b.now c.args.p.now) c.loop-k.k in
     let least = few-classes c.args.p.now c.classes.ensures.kept in
     omega (arith, all, n, least)
-
-pub returns-clause-told : goal.returns-clause-told
-returns-clause-told c valid k l below within =
-    let b = c.args.b.now in
-    let p = c.args.p.now in
-    join-may_merge b c.edges.ensures.block c.classes_of.ensures.few p (partition-parts b p c.requires.whole) (few-classes p c.classes.ensures.kept)
-    (is_valid-valid b p valid) k l below within

@@ -1,9 +1,12 @@
 use Rattle.std.proofs.Common.{◌∙◌, ap, List, ℕ}
 use Rattle.tam_sets.specs.Sets.{with_place}
 use Rattle.tam_split.specs.declared.vertex.Vertex.{Vertex}
-use Rattle.tam_reach.proofs.PlacesThat.{up_to-more, up_to-same}
+use Rattle.tam_reach.proofs.PlacesThat.{up_to-none, up_to-more, up_to-same}
 use Rattle.tam_reach.proofs.reach.inlets.Goals as goal
 use Rattle.tam_reach.proofs.reach.inlets.Goals.{then-vertex, else-vertex}
+
+pub loop-place-init : goal.loop-place-init
+loop-place-init c = c.empty-inlets.ensures.value ∙ up_to-none (λ v. v.inlet) c.args.vertices.now
 
 pub loop-place-preserved : goal.loop-place-preserved
 loop-place-preserved c =

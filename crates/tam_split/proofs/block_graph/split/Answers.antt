@@ -13,9 +13,9 @@ edges_among-requires c =
     let code : c.code-code.result.now ≡ code_of g c.args.code = c.code-code.ensures.value ∙ ap (λ (h : Graph). code_of h c.args.code) c.graph.ensures.value in
     let vertices : c.in_ok-vertices.vertices.items ≡ vertices_in (code_of g c.args.code) c.args.block = c.in_ok-vertices.ensures ∙ ap
     (λ (k : Code). vertices_in k c.args.block) code in
-    let few : length (vertices_in (code_of g c.args.code) c.args.block) ≤ 128 =
+    let few : length (vertices_in (code_of g c.args.code) c.args.block) ≤ 512 =
     few-vertices g c.graph.ensures.accepted c.args.code c.args.block c.requires.in_range.0 c.requires.in_range.1 in
-    record { few = subst (λ (vs : List Vertex). length vs ≤ 128) (sym (c.deref.ensures.value ∙ vertices)) few }
+    record { few = subst (λ (vs : List Vertex). length vs ≤ 512) (sym (c.deref.ensures.value ∙ vertices)) few }
 
 pub invariant_of-result : goal.invariant_of-result
 invariant_of-result c =
@@ -25,7 +25,7 @@ invariant_of-result c =
     (λ (k : Code). vertices_in k c.args.block) code in
     let edges : c.in_ok-edges.edges.items ≡ edges_among (code_of g c.args.code) (vertices_in (code_of g c.args.code) c.args.block) =
     c.in_ok-edges.ensures.value ∙ ap₂ (λ (k : Code) (vs : List Vertex). edges_among k vs) code (c.deref.ensures.value ∙ vertices) in
-    let few : length (vertices_in (code_of g c.args.code) c.args.block) ≤ 128 =
+    let few : length (vertices_in (code_of g c.args.code) c.args.block) ≤ 512 =
     few-vertices g c.graph.ensures.accepted c.args.code c.args.block c.requires.in_range.0 c.requires.in_range.1 in
     let small : IsSmallBlock (block_graph (code_of g c.args.code) c.args.block) = record {
       few = few;

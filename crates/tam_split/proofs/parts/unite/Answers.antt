@@ -35,7 +35,7 @@ move_on-requires c =
     c.bounds-from.result.0 c.bounds-from.result.1 c.bounds-start.result.0 c.bounds-start.result.1 c.bounds-from.ensures.start c.bounds-from.ensures.end
     c.bounds-start.ensures.start c.bounds-start.ensures.end in
     let by = c.bounds-start.result.1 - c.bounds-start.result.0 in
-    let low : by ≤ 128 = let i = u.runs.inside in let f = u.runs.few in omega arith in
+    let low : by ≤ 512 = let i = u.runs.inside in let f = u.runs.few in omega arith in
     let P : ℕ → Type 0 = λ e. e + by < 2 ^ 32 in
     let all = ends-fit (cut_from 0 c.args.places.now c.args.ends.now.items) c.args.places.now c.args.ends.now.items c.requires.flat by low in
     record {

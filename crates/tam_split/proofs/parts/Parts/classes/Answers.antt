@@ -8,7 +8,7 @@ pub overflow_cast-result : goal.overflow_cast-result
 overflow_cast-result c =
     let all : length (cut_from 0 c.self.inside.places.items c.self.inside.ends.items) ≡ length c.self.inside.ends.items =
     length-cut 0 c.self.inside.places.items c.self.inside.ends.items in
-    let few : length (cut_from 0 c.self.inside.places.items c.self.inside.ends.items) ≤ 128 = few-classes
+    let few : length (cut_from 0 c.self.inside.places.items c.self.inside.ends.items) ≤ 512 = few-classes
     (cut_from 0 c.self.inside.places.items c.self.inside.ends.items) c.self.invariant.classes in
     let count : c.len.result ≡ length c.self.inside.ends.items = c.len.ensures ∙ c.self.inside.ends.ok.0 in omega arith
 

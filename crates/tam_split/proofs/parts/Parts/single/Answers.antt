@@ -15,7 +15,7 @@ loop-place-preserved c =
 
 pub invariant_of-result : goal.invariant_of-result
 invariant_of-result c =
-    let few : c.loop-place.place ≤ 128 = omega arith in rw (c.loop-place.invariant.places, c.loop-place.invariant.ends) (single-flat c.loop-place.place few)
+    let few : c.loop-place.place ≤ 512 = omega arith in rw (c.loop-place.invariant.places, c.loop-place.invariant.ends) (single-flat c.loop-place.place few)
 
 pub returns : goal.returns
 returns c =

@@ -1,0 +1,82 @@
+use Rattle.std.proofs.Common.{◌≡◌, ◌∙◌, sym, subst₂, ap, ap₂, arith, length, List, ℕ, [], true, get_or}
+use Rattle.std.proofs.lemmas.List.{get_or_default}
+use Rattle.tam_word.specs.Lists.{has}
+use Rattle.tam_split.specs.Partitions.{are_apart}
+use Rattle.tam_split.proofs.Classes.{partition-parts}
+use Rattle.tam_split.proofs.Validity.{is_valid-valid}
+use Rattle.tam_quotient.specs.declared.ways.Ways.{Ways}
+use Rattle.tam_quotient.specs.Joins.{tells_apart, tells_none_between}
+use Rattle.tam_part.specs.Kept.{ways_at, no_ways}
+use Rattle.tam_part.proofs.Standing.{member-class}
+use Rattle.tam_part.proofs.Joining.{told-apart, apart-may, near-told}
+use Rattle.tam_part.proofs.Separating.{noted-separated}
+use Rattle.tam_part.proofs.merging.joins.Goals as goal
+
+pub returns-then-has-clause-value : goal.returns-then-has-clause-value
+returns-then-has-clause-value c =
+    let b = c.args.b.now in
+    let p = c.args.p.now in
+    let parts = partition-parts b p c.requires.whole in
+    let one = member-class (length b.vertices) p parts c.args.k c.place_of-one.result c.place_of-one.ensures.member in
+    let other = member-class (length b.vertices) p parts c.args.l c.place_of-other.result c.place_of-other.ensures.member in
+    let there : has (get_or c.args.apart.now c.place_of-one.result []) c.place_of-other.result ≡ true =
+    ap (λ (xs : List ℕ). has xs c.place_of-other.result) (get_or_default c.args.apart.now c.place_of-one.result [] c.index-apart-one.result
+    (omega (arith, one.1, c.requires.separated.count))) ∙ (sym c.has.ensures.value ∙ c.if-has.true) in
+    let apart = subst₂ (λ x y. are_apart b p x y ≡ true) one.0 other.0 (c.requires.separated.each c.place_of-one.result c.place_of-other.result one.1 other.1 there) in
+    sym (apart-may b c.requires.block c.requires.few p parts (is_valid-valid b p c.requires.valid) c.args.k c.args.l c.requires.in_order c.requires.in_range
+    c.place_of-one.result c.place_of-other.result one.0 other.0 apart)
+
+pub returns-then-is_apart-clause-value : goal.returns-then-is_apart-clause-value
+returns-then-is_apart-clause-value c =
+    let b = c.args.b.now in
+    let p = c.args.p.now in
+    let parts = partition-parts b p c.requires.whole in
+    let valid = is_valid-valid b p c.requires.valid in
+    let one = member-class (length b.vertices) p parts c.args.k c.place_of-one.result c.place_of-one.ensures.member in
+    let other = member-class (length b.vertices) p parts c.args.l c.place_of-other.result c.place_of-other.ensures.member in
+    let here : c.index-ways-one.result ≡ ways_at b p c.place_of-one.result = c.index-ways-one.is ∙ (get_or_default c.args.ways.now c.place_of-one.result
+    c.index-ways-one.result no_ways (omega (arith, one.1, c.requires.ways.count)) ∙ c.requires.ways.each c.place_of-one.result one.1) in
+    let there : c.index-ways-other.result ≡ ways_at b p c.place_of-other.result = c.index-ways-other.is ∙ (get_or_default c.args.ways.now c.place_of-other.result
+    c.index-ways-other.result no_ways (omega (arith, other.1, c.requires.ways.count)) ∙ c.requires.ways.each c.place_of-other.result other.1) in
+    let apart : are_apart b p c.args.k c.args.l ≡ true = sym (told-apart b c.requires.block c.requires.few p parts valid c.args.k c.args.l c.requires.in_order
+    c.requires.in_range c.place_of-one.result c.place_of-other.result one.0 other.0)
+    ∙ (ap₂ (λ (v w : Ways). tells_apart v w) (sym here) (sym there) ∙ (sym c.is_apart.ensures.value ∙ c.if-is_apart.true)) in
+    sym (apart-may b c.requires.block c.requires.few p parts valid c.args.k c.args.l c.requires.in_order c.requires.in_range
+    c.place_of-one.result c.place_of-other.result one.0 other.0 apart)
+
+pub returns-then-is_apart-clause-separated : goal.returns-then-is_apart-clause-separated
+returns-then-is_apart-clause-separated c =
+    let b = c.args.b.now in
+    let p = c.args.p.now in
+    let parts = partition-parts b p c.requires.whole in
+    let valid = is_valid-valid b p c.requires.valid in
+    let one = member-class (length b.vertices) p parts c.args.k c.place_of-one.result c.place_of-one.ensures.member in
+    let other = member-class (length b.vertices) p parts c.args.l c.place_of-other.result c.place_of-other.ensures.member in
+    let here : c.index-ways-one.result ≡ ways_at b p c.place_of-one.result = c.index-ways-one.is ∙ (get_or_default c.args.ways.now c.place_of-one.result
+    c.index-ways-one.result no_ways (omega (arith, one.1, c.requires.ways.count)) ∙ c.requires.ways.each c.place_of-one.result one.1) in
+    let there : c.index-ways-other.result ≡ ways_at b p c.place_of-other.result = c.index-ways-other.is ∙ (get_or_default c.args.ways.now c.place_of-other.result
+    c.index-ways-other.result no_ways (omega (arith, other.1, c.requires.ways.count)) ∙ c.requires.ways.each c.place_of-other.result other.1) in
+    let apart : are_apart b p c.args.k c.args.l ≡ true = sym (told-apart b c.requires.block c.requires.few p parts valid c.args.k c.args.l c.requires.in_order
+    c.requires.in_range c.place_of-one.result c.place_of-other.result one.0 other.0)
+    ∙ (ap₂ (λ (v w : Ways). tells_apart v w) (sym here) (sym there) ∙ (sym c.is_apart.ensures.value ∙ c.if-is_apart.true)) in
+    noted-separated b p c.args.apart.now c.note_apart.new.apart c.place_of-one.result c.place_of-other.result c.requires.separated c.note_apart.ensures.count
+    (subst₂ (λ x y. are_apart b p x y ≡ true) (sym one.0) (sym other.0) apart) c.note_apart.ensures.noted
+
+pub returns-clause-value : goal.returns-clause-value
+returns-clause-value c =
+    let b = c.args.b.now in
+    let p = c.args.p.now in
+    let parts = partition-parts b p c.requires.whole in
+    let valid = is_valid-valid b p c.requires.valid in
+    let one = member-class (length b.vertices) p parts c.args.k c.place_of-one.result c.place_of-one.ensures.member in
+    let other = member-class (length b.vertices) p parts c.args.l c.place_of-other.result c.place_of-other.ensures.member in
+    let here : c.index-ways-one.result ≡ ways_at b p c.place_of-one.result = c.index-ways-one.is ∙ (get_or_default c.args.ways.now c.place_of-one.result
+    c.index-ways-one.result no_ways (omega (arith, one.1, c.requires.ways.count)) ∙ c.requires.ways.each c.place_of-one.result one.1) in
+    let there : c.index-ways-other.result ≡ ways_at b p c.place_of-other.result = c.index-ways-other.is ∙ (get_or_default c.args.ways.now c.place_of-other.result
+    c.index-ways-other.result no_ways (omega (arith, other.1, c.requires.ways.count)) ∙ c.requires.ways.each c.place_of-other.result other.1) in
+    let near = sym (told-apart b c.requires.block c.requires.few p parts valid c.args.k c.args.l c.requires.in_order
+    c.requires.in_range c.place_of-one.result c.place_of-other.result one.0 other.0)
+    ∙ (ap₂ (λ (v w : Ways). tells_apart v w) (sym here) (sym there) ∙ (sym c.is_apart.ensures.value ∙ c.if-is_apart.false)) in
+    c.has_none_between.ensures.value ∙ (ap₂ (λ (v w : Ways). tells_none_between v w) here there
+    ∙ near-told b c.requires.block c.requires.few p parts valid c.args.k c.args.l c.requires.in_order c.requires.in_range
+    c.place_of-one.result c.place_of-other.result one.0 other.0 near)

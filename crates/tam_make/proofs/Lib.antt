@@ -1,0 +1,12 @@
+pub mod Digits
+pub mod TextWith
+pub mod RisingEdges
+pub mod Numbered
+pub mod Fine
+pub mod LadderGraph
+pub mod LadderFine
+pub mod LadderText
+pub mod WaveGraph
+pub mod WaveFine
+pub mod WaveText
+pub mod Made

@@ -1,0 +1,5 @@
+mod Rows
+mod ClassNumbers
+mod EdgeSteps
+mod FiringSteps
+pub mod Directly

@@ -1,0 +1,11 @@
+pub mod Lists
+pub mod NodeWords
+pub mod Given
+pub mod CodeWords
+pub mod Fitting
+pub mod HostEvents
+pub mod PollsComing
+pub mod Agreeing
+pub mod NoTraps
+pub mod RunEnds
+pub mod Reporting

@@ -1,0 +1,13 @@
+mod Lines
+mod Cutting
+mod Forms
+mod Spelling
+mod Comes
+mod Limits
+mod Sayings
+mod TextsRead
+mod Leading
+mod TextsBack
+mod ProgramsBack
+mod Looping
+mod Printed

@@ -1,0 +1,13 @@
+-- What a split at spaces yields.
+use Rattle.std.proofs.Common.{rules, tests}
+use Rattle.std.proofs.lemmas.Iterator.Consumers.{map_from_collect}
+use Rattle.std.proofs.lemmas.Iterator.Splits.{YieldsList-from_slice_split}
+use Rattle.tl0_text.specs.CodeSayings.{is_space}
+use Rattle.tl0_text.proofs.tokens.pieces_of.Goals as goal
+
+pub returns : goal.returns
+returns c = record {
+  value = map_from_collect _ c.collect.ensures.ran
+      (YieldsList-from_slice_split _ is_space c.args.line.now c.split.ensures.rest c.split.ensures.done c.split.ensures.closure (λ x r q k. search
+      (rules, tests)));
+}

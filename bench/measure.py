@@ -110,6 +110,9 @@ def measure_blocks(program):
     for kind in texts.BLOCKS:
         for vertices in (32, 64, 128):
             measure(program, "parts", f"{kind}, {vertices} vertices", texts.block(kind, vertices), [])
+    for count in (30, 60, 120, 240):
+        for mode in ("sets", "parts"):
+            measure(program, mode, f"{count} codes of 128 vertices", texts.codes(count, 128), [])
 
 
 def measure_assembly(program):

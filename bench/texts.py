@@ -109,6 +109,23 @@ def block(kind, vertices):
 BLOCKS = ["a chain", "params and results, each its own", "sums of neighbours", "random"]
 
 
+def codes(count, vertices):
+    """An empty `main`, and so many codes of so many vertices at random: params, operators on late values, results."""
+    lines = ["dg 1", "code main", "end"]
+    for number in range(count):
+        draw = random.Random(number)
+        places = min(max(2, vertices // 8), 64)
+        values = [f"p{place}" for place in range(places)]
+        lines.append(f"code k{number}")
+        lines += [f"{value} = param {place}" for place, value in enumerate(values)]
+        for index in range(vertices - 2 * places):
+            first, second = draw.choice(values[-24:]), draw.choice(values[-24:])
+            values.append(f"v{index}")
+            lines.append(f"v{index} = {draw.choice(OPERATORS)} {first} {second}")
+        lines += [f"result {place} {draw.choice(values[-(vertices // 2):])}" for place in range(places)]
+        lines.append("end")
+    return "\n".join(lines) + "\n"
+
 def assembly(size):
     """An assembly text of about that many bytes: instructions of every form, and a label for every eighth."""
     lines = [".image 1", ".stride 32", ".params 0", ".results 0"]

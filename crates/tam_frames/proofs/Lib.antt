@@ -1,0 +1,8 @@
+mod FrameLemmas
+mod QueueLemmas
+mod TableLemmas
+mod StoreLemmas
+mod SizeLemmas
+mod ViewLemmas
+pub mod LiveLemmas
+mod TurnLemmas

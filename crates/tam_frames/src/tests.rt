@@ -1,0 +1,185 @@
+// Frames taken, run, given back and taken again, step by step. The answers are worked by hand from docs/THREADS.md, "Frames".
+ghost use Rattle.std.specs.Prelude.{◌≡◌};
+
+use crate::{Frames, Full, Spend};
+use std::test::Fail;
+
+/// A call, where its conditions are met.
+#[derive(Clone, Copy, Debug)]
+enum Step {
+    Take([u32; 2]),
+    Give(u32),
+    Live(u32),
+    Used,
+    Set(u32, u32, u32),
+    Get(u32, u32),
+    Spend(u32, u32),
+    Lower(u32, u32),
+    Owed(u32),
+    Busy(u32),
+    Ready,
+    Next,
+    Rest,
+}
+
+/// What the call answers.
+#[derive(Clone, Copy, Debug, PartialEq, Eq)]
+enum Answer {
+    Taken(u32),
+    Refused,
+    Number(u32),
+    Holds(bool),
+    Spent(Spend),
+    Next(u32, u32),
+    Nothing,
+    /// A condition isn't met.
+    Unfit,
+}
+
+/// Frames with two slots and two threads each.
+#[derive(Drop)]
+struct Table {
+    frames: Frames,
+    ghost slots: { frames.slots ≡ 2 },
+    ghost threads: { frames.threads ≡ 2 },
+}
+
+impl Table {
+    fn answer(&mut self, step: Step) -> Answer {
+        match step {
+            Step::Take(counts) => match self.frames.take(&counts) {
+                Ok(number) => Answer::Taken(number),
+                Err(Full) => Answer::Refused,
+            },
+            Step::Give(f)
+                if self.frames.live(f) && self.frames.owed(f) == 0 && !self.frames.busy(f) => {
+                self.frames.give(f);
+                Answer::Nothing
+            }
+            Step::Live(f) => Answer::Holds(self.frames.live(f)),
+            Step::Used => Answer::Number(self.frames.used()),
+            Step::Set(f, slot, word) if self.frames.live(f) && slot < 2 => {
+                self.frames.set(f, slot, word);
+                Answer::Nothing
+            }
+            Step::Get(f, slot) if self.frames.live(f) && slot < 2 => {
+                Answer::Number(self.frames.get(f, slot))
+            }
+            Step::Spend(f, thread) if self.frames.live(f) && thread < 2 => {
+                Answer::Spent(self.frames.spend(f, thread))
+            }
+            Step::Lower(f, n) if self.frames.live(f) => {
+                self.frames.lower(f, n);
+                Answer::Nothing
+            }
+            Step::Owed(f) if self.frames.live(f) => Answer::Number(self.frames.owed(f)),
+            Step::Busy(f) if self.frames.live(f) => Answer::Holds(self.frames.busy(f)),
+            Step::Ready => Answer::Holds(self.frames.ready()),
+            Step::Next => match self.frames.next_thread() {
+                Some((f, thread)) => Answer::Next(f, thread),
+                None => Answer::Nothing,
+            },
+            Step::Rest => {
+                self.frames.rest();
+                Answer::Nothing
+            }
+            _ => Answer::Unfit,
+        }
+    }
+}
+
+// The example of that section: thread 0 waits for one word, thread 1 for two. The second frame is the last for which there is room.
+#[test]
+fn the_worked_example(rt: HostRuntime) -> Result<(), Fail> {
+    let Ok(frames) = Frames::new(rt.alloc(), 2, 2, 2) else {
+        return Err(Fail::from("no memory"));
+    };
+    let mut table = Table { frames };
+    let steps = [
+        (Step::Take([1, 2]), Answer::Taken(0)),
+        (Step::Owed(0), Answer::Number(2)),
+        (Step::Spend(0, 1), Answer::Spent(Spend::Left)),
+        (Step::Busy(0), Answer::Holds(false)),
+        (Step::Spend(0, 0), Answer::Spent(Spend::Enabled)),
+        (Step::Spend(0, 0), Answer::Spent(Spend::Spent)),
+        (Step::Spend(0, 1), Answer::Spent(Spend::Enabled)),
+        (Step::Next, Answer::Next(0, 1)),
+        (Step::Next, Answer::Next(0, 0)),
+        (Step::Rest, Answer::Nothing),
+        (Step::Next, Answer::Nothing),
+        (Step::Take([1, 0]), Answer::Taken(1)),
+        (Step::Take([1, 0]), Answer::Refused),
+    ];
+    for (step, answer) in steps {
+        assert_eq!(rt; table.answer(step), answer, "{step:?}");
+    }
+    Ok(())
+}
+
+// A frame keeps its turn while a thread of it is ready, also one that became ready in that turn; frames 2 and 1 wait in the order in which they joined.
+#[test]
+fn turns_go_round(rt: HostRuntime) -> Result<(), Fail> {
+    let Ok(frames) = Frames::new(rt.alloc(), 3, 2, 2) else {
+        return Err(Fail::from("no memory"));
+    };
+    let mut table = Table { frames };
+    let steps = [
+        (Step::Take([1, 1]), Answer::Taken(0)),
+        (Step::Take([1, 1]), Answer::Taken(1)),
+        (Step::Take([1, 1]), Answer::Taken(2)),
+        (Step::Ready, Answer::Holds(false)),
+        (Step::Spend(0, 0), Answer::Spent(Spend::Enabled)),
+        (Step::Spend(2, 0), Answer::Spent(Spend::Enabled)),
+        (Step::Spend(1, 0), Answer::Spent(Spend::Enabled)),
+        (Step::Next, Answer::Next(0, 0)),
+        (Step::Spend(0, 1), Answer::Spent(Spend::Enabled)),
+        (Step::Spend(2, 1), Answer::Spent(Spend::Enabled)),
+        (Step::Next, Answer::Next(0, 1)),
+        (Step::Next, Answer::Next(2, 1)),
+        (Step::Next, Answer::Next(2, 0)),
+        (Step::Ready, Answer::Holds(true)),
+        (Step::Next, Answer::Next(1, 0)),
+        (Step::Ready, Answer::Holds(false)),
+        (Step::Next, Answer::Nothing),
+    ];
+    for (step, answer) in steps {
+        assert_eq!(rt; table.answer(step), answer, "{step:?}");
+    }
+    Ok(())
+}
+
+// The number that was given back last is the first to be taken again, and its frame is new.
+#[test]
+fn numbers_come_back_last_first(rt: HostRuntime) -> Result<(), Fail> {
+    let Ok(frames) = Frames::new(rt.alloc(), 3, 2, 2) else {
+        return Err(Fail::from("no memory"));
+    };
+    let mut table = Table { frames };
+    let steps = [
+        (Step::Take([5, 0]), Answer::Taken(0)),
+        (Step::Take([5, 0]), Answer::Taken(1)),
+        (Step::Take([5, 0]), Answer::Taken(2)),
+        (Step::Set(1, 1, 77), Answer::Nothing),
+        (Step::Get(1, 0), Answer::Number(0)),
+        (Step::Get(1, 1), Answer::Number(77)),
+        (Step::Give(1), Answer::Unfit),
+        (Step::Lower(0, 2), Answer::Nothing),
+        (Step::Give(0), Answer::Nothing),
+        (Step::Lower(1, 2), Answer::Nothing),
+        (Step::Give(1), Answer::Nothing),
+        (Step::Used, Answer::Number(1)),
+        (Step::Live(0), Answer::Holds(false)),
+        (Step::Live(2), Answer::Holds(true)),
+        (Step::Live(3), Answer::Holds(false)),
+        (Step::Take([1, 3]), Answer::Taken(1)),
+        (Step::Get(1, 1), Answer::Number(0)),
+        (Step::Spend(1, 1), Answer::Spent(Spend::Left)),
+        (Step::Take([0, 0]), Answer::Taken(0)),
+        (Step::Spend(0, 0), Answer::Spent(Spend::Spent)),
+        (Step::Take([0, 0]), Answer::Refused),
+    ];
+    for (step, answer) in steps {
+        assert_eq!(rt; table.answer(step), answer, "{step:?}");
+    }
+    Ok(())
+}

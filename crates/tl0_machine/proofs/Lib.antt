@@ -1,0 +1,5 @@
+pub mod Spending
+pub mod Stopping
+pub mod Progressing
+pub mod Keeping
+pub mod Instructions

@@ -1,0 +1,3 @@
+pub mod CodeFits
+pub mod ThreadStates
+pub mod ThreadEvents

@@ -1,5 +1,5 @@
-mod Rows
-mod ClassNumbers
+pub mod Rows
+pub mod ClassNumbers
 mod EdgeSteps
 mod FiringSteps
 pub mod Directly

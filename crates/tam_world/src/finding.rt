@@ -10,7 +10,7 @@ use tam_graph::Kind;
 
 /// What node is looked for, by what it does.
 #[derive(Clone, Copy)]
-pub(crate) enum Sought {
+pub enum Sought {
     Param { place: u32 },
     Ret { call: u32, place: u32 },
     Merge { cond: u32, place: u32 },
@@ -43,8 +43,8 @@ fn key_of(sought: Sought) -> u32
     }
 }
 
-// The first node that is what is looked for.
-pub(crate) fn find_node(program: &Program<'_>, code: u32, sought: Sought) -> Option<u32>
+/// The first node that is what is looked for.
+pub fn find_node(program: &Program<'_>, code: u32, sought: Sought) -> Option<u32>
     ensures value { option_to_list result ≡ sought_in (code_of program.now code) sought }
 {
     let inlets = program.inlets(code, key_of(sought));
@@ -58,15 +58,15 @@ pub(crate) fn find_node(program: &Program<'_>, code: u32, sought: Sought) -> Opt
     None
 }
 
-// The `in` of a place in a block.
-pub(crate) fn find_enter(program: &Program<'_>, code: u32, block: u32, place: u32) -> Option<u32>
+/// The `in` of a place in a block.
+pub fn find_enter(program: &Program<'_>, code: u32, block: u32, place: u32) -> Option<u32>
     ensures value { option_to_list result ≡ node_in (code_of program.now code) block (is_enter place) }
 {
     find_node(program, code, Sought::Enter { block, place })
 }
 
-// The merge of a place of the cond that opens a block.
-pub(crate) fn find_merge(program: &Program<'_>, code: u32, block: u32, place: u32) -> Option<u32>
+/// The merge of a place of the cond that opens a block.
+pub fn find_merge(program: &Program<'_>, code: u32, block: u32, place: u32) -> Option<u32>
     ensures value { option_to_list result ≡ merges_of (code_of program.now code) place (owner_of (code_of program.now code) block) }
 {
     match owner_of(program.graph(), code, block) {

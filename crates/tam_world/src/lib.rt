@@ -1,7 +1,7 @@
 //! The activations and arrays of a graph at run time, and what a firing and a delivery do.
 //!
 //! Over the crates of graphs, messages and cells. Journals, and the runs of a graph, stand on this crate.
-//! Read `specs/Worlds.antt` first: what a firing and a delivery do. Then `src/firing.rt` and `src/delivery.rt`.
+//! Read `specs/Worlds.antt` first: what a firing and a delivery do. Then `src/firings.rt` and `src/delivery.rt`.
 #![tactic(auto)]
 
 mod activation;
@@ -19,6 +19,7 @@ mod world;
 
 pub use delivery::{Delivery, Fault};
 pub use effect::Effect;
+pub use finding::{Sought, find_enter, find_merge, find_node};
 pub use firings::firing;
 pub use messages::argument_messages;
 pub use node_at::NodeAt;

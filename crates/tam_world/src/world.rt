@@ -2,6 +2,7 @@
 ghost use Rattle.std.specs.Prelude.{◌≡◌, ◌+◌, ◌≤◌, [], ◌∷◌, length, IfOk, OnOk};
 ghost use Rattle.tam_word.specs.Lists.{changed_at};
 ghost use Rattle.tam_istr.specs.Cells.{cells_used};
+ghost use Rattle.tam_msgs.specs.Messages.{outside};
 ghost use Rattle.tam_world.specs.Worlds.{begun, with_word, with_block, activation_at, word_at, has_word, has_entered, got, entered};
 ghost use Rattle.tam_world.specs.Kept.{activations_of};
 ghost use Rattle.tam_world.specs.Effects.{with_begun};
@@ -34,7 +35,7 @@ impl Model for World {
 impl World {
     /// The world in which the root has begun, of this code.
     pub fn opening(alloc: Global, main: u32) -> Result<World, AllocError>
-        ensures value { IfOk result (λ world. world ≡ record { activations = begun main OUTSIDE 0 ∷ []; arrays = []; makers = [] }) }
+        ensures value { IfOk result (λ world. world ≡ record { activations = begun main outside 0 ∷ []; arrays = []; makers = [] }) }
     {
         let root = Activation::begun(alloc, main, OUTSIDE, 0)?;
         let mut activations = Vec::new(alloc);

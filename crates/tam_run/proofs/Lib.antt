@@ -6,3 +6,4 @@ pub mod Events
 pub mod GraphJournals
 pub mod QuietRuns
 pub mod RoomExample
+pub mod GraphPartitions

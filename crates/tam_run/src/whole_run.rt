@@ -35,7 +35,7 @@ pub fn run<K: Sink>(
     let mut order = order;
     let mut eval = match Eval::new(alloc, g, args, limits) {
         Ok(eval) => eval,
-        Err(_) => return Outcome::Stopped(Stop::NoMemory),
+        Err(error) => return Outcome::Stopped(Stop::from(error)),
     };
     'events: loop {
         match eval.event(&mut order) {

@@ -28,13 +28,8 @@ pub fn put_lines<K: Sink>(made: Result<Vec<Vec<u8>>, AllocError>, out: &mut K) -
     ensures text { MatchResult made (λ lines. Puts (K.taken out.old) (K.taken out.new) (bytes_of lines.items) result) (λ _. (result ≡ Err Broken.NoMemory) × (K.taken out.new ≡ K.taken out.old)) }
     ensures counted { CountsPuts (K.faults out.old) (K.faults out.new) result }
 {
-    match made {
-        Ok(lines) => match write_lines(out, &lines) {
-            Ok(()) => Ok(()),
-            Err(_) => Err(Broken::WriteFault),
-        },
-        Err(_) => Err(Broken::NoMemory),
-    }
+    write_lines(out, &made?)?;
+    Ok(())
 }
 
 // Writes a line that was made, if it was.
@@ -42,13 +37,8 @@ fn put_line<K: Sink>(made: Result<Vec<u8>, AllocError>, out: &mut K) -> Result<(
     ensures text { MatchResult made (λ line. Puts (K.taken out.old) (K.taken out.new) line.items result) (λ _. (result ≡ Err Broken.NoMemory) × (K.taken out.new ≡ K.taken out.old)) }
     ensures counted { CountsPuts (K.faults out.old) (K.faults out.new) result }
 {
-    match made {
-        Ok(line) => match write_whole(out, &line) {
-            Ok(()) => Ok(()),
-            Err(_) => Err(Broken::WriteFault),
-        },
-        Err(_) => Err(Broken::NoMemory),
-    }
+    write_whole(out, &made?)?;
+    Ok(())
 }
 
 /// Writes the line of a result, and notes it.
@@ -63,8 +53,6 @@ pub fn print_result<K: Sink>(
     ensures text { Puts (K.taken out.old) (K.taken out.new) (result_line (place, word)) result }
     ensures counted { CountsPuts (K.faults out.old) (K.faults out.new) result }
 {
-    if printed.push((place, word)).is_err() {
-        return Err(Broken::NoMemory);
-    }
+    printed.push((place, word))?;
     put_line(lines::result_line(alloc, place, word), out)
 }

@@ -1,8 +1,11 @@
 pub mod Lists
-pub mod NodeWords
+pub mod NodeWeights
 pub mod Given
+pub mod CodeWeights
 pub mod CodeWords
 pub mod Fitting
+pub mod LineBytes
+pub mod TextBytes
 pub mod HostEvents
 pub mod PollsComing
 pub mod Agreeing

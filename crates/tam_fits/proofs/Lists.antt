@@ -4,7 +4,8 @@ use Rattle.std.proofs.Common.{inl, inr, slice_get, Some}
 use Rattle.std.specs.List.{sum_by}
 use Rattle.std.proofs.lemmas.List.{length-append}
 use Rattle.std.proofs.lemmas.List.Sums.{sum_by-cons}
-use Rattle.std.proofs.Math.Nat.{suc-mul, mul-add}
+use Rattle.std.proofs.Math.Nat.{suc-mul, mul-add, mul_comm, mul-le-mul_right}
+use Rattle.std.proofs.lemmas.Nat.{mul-le}
 use Rattle.tam_word.proofs.Members.{In}
 
 -- the length of lists together
@@ -47,6 +48,14 @@ sum-places f m (x ∷ xs) h =
     let e = suc-mul (length xs) m in
     omega (arith, i, o, a, e)
 
+-- and of n at most, m times n
+pub sum-limit : {X : Type 0} (f : X → ℕ) (m n : ℕ) (xs : List X) → ((x : X) → In x xs → f x ≤ m) → length xs ≤ n → sum_by f xs ≤ m * n
+sum-limit f m n xs h l =
+    let s = sum-most f m xs h in
+    let k : length xs * m ≤ n * m = mul-le-mul_right m l in
+    let c : n * m ≡ m * n = mul_comm n m in
+    omega (arith, s, k, c)
+
 -- the sum of two terms
 pub sum-plus : {X : Type 0} (f h : X → ℕ) (xs : List X) → sum_by (λ x. f x + h x) xs ≡ sum_by f xs + sum_by h xs
 sum-plus f h [] = omega arith
@@ -67,6 +76,15 @@ sum-times m f (x ∷ xs) =
     let e : m * (f x + sum_by f xs) ≡ m * f x + m * sum_by f xs = mul-add m (f x) (sum_by f xs) in
     let k : m * sum_by f (x ∷ xs) ≡ m * (f x + sum_by f xs) = ap (λ j. m * j) b in
     omega (arith, i, a, e, k)
+
+-- a sum that isn't greater isn't so where each term counts m times
+pub sum-times_least : {X Y : Type 0} (m : ℕ) (f : X → ℕ) (h : Y → ℕ) (xs : List X) (ys : List Y) → sum_by f xs ≤ sum_by h ys
+    → sum_by (λ x. m * f x) xs ≤ sum_by (λ y. m * h y) ys
+sum-times_least m f h xs ys l =
+    let a = sum-times m f xs in
+    let b = sum-times m h ys in
+    let k : m * sum_by f xs ≤ m * sum_by h ys = mul-le m (sum_by f xs) m (sum_by h ys) (omega arith) l in
+    omega (arith, a, b, k)
 
 -- where each term is 1
 pub sum-ones : {X : Type 0} (f : X → ℕ) (xs : List X) → ((x : X) → In x xs → f x ≡ 1) → sum_by f xs ≡ length xs

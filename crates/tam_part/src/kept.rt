@@ -16,7 +16,7 @@ pub(crate) fn none_apart(alloc: Global, n: u32) -> Result<Vec<Set>, NoMemory>
 {
     let mut apart = Vec::new(alloc);
     for _place in 0..n {
-        apart.push(Set::empty()).map_err(|_| NoMemory)?;
+        apart.push(Set::empty())?;
     }
     Ok(apart)
 }

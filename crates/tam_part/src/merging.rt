@@ -2,7 +2,7 @@
 ghost use Rattle.std.specs.Prelude.{ℕ, ◌≡◌, ◌<◌, ◌≤◌, ◌+◌, false, [], ◌∷◌, length, IfOk, IfSome, IsNone, IsTrue};
 ghost use Rattle.tam_word.specs.Lists.{has};
 ghost use Rattle.tam_split.specs.PartitionLaws.{IsBlockGraph, IsPartition};
-ghost use Rattle.tam_split.specs.Partitions.{is_valid, class_at, merged, may_merge, least_pair, partition_of};
+ghost use Rattle.tam_split.specs.Partitions.{is_valid, class_at, class_of, merged, may_merge, least_pair, partition_of};
 ghost use Rattle.tam_split.specs.KeptParts.{AreClasses};
 ghost use Rattle.tam_part.specs.Kept.{AreWays, AreSeparated, AreDone};
 
@@ -64,35 +64,34 @@ fn partner(
     ensures done { IsNone result → AreDone b.now p.now (k + 1) }
     ensures separated { AreSeparated b.now p.now apart.new }
 {
+    let place = place_of(p, k);
     for j in 0..k {
-        if joins(b, p, ways, apart, j, k) {
+        if joins(b, p, ways, apart, place_of(p, j), place) {
             return Some((j, k));
         }
     }
     for l in k + 1..p.classes() {
-        if joins(b, p, ways, apart, k, l) {
+        if joins(b, p, ways, apart, place, place_of(p, l)) {
             return Some((k, l));
         }
     }
     None
 }
 
-// Whether two classes may be merged. Classes that are known to be apart are not tested again.
-fn joins(b: &BlockGraph, p: &Parts, ways: &[Ways], apart: &mut [Set], k: u32, l: u32) -> bool
+// Whether the classes of two places may be merged, of which the first is before the second. Classes that are known to be apart are not
+// tested again.
+fn joins(b: &BlockGraph, p: &Parts, ways: &[Ways], apart: &mut [Set], one: u32, other: u32) -> bool
     requires block { IsBlockGraph b.now }
     requires few { length b.now.vertices ≤ 512 }
     requires whole { IsPartition b.now p.now }
     requires valid { IsTrue (is_valid b.now p.now) }
-    requires kept { AreClasses p.now }
     requires ways { AreWays b.now p.now ways.now }
     requires separated { AreSeparated b.now p.now apart.old }
-    requires in_order { k < l }
-    requires in_range { l < length p.now }
-    ensures value { result ≡ may_merge b.now p.now (k, l) }
+    requires in_order { class_of p.now one < class_of p.now other }
+    requires in_range { (one < length b.now.vertices) × (other < length b.now.vertices) }
+    ensures value { result ≡ may_merge b.now p.now (class_of p.now one, class_of p.now other) }
     ensures separated { AreSeparated b.now p.now apart.new }
 {
-    let one = place_of(p, k);
-    let other = place_of(p, l);
     if apart[one as usize].has(other) {
         return false;
     }

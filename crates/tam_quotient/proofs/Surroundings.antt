@@ -1,15 +1,15 @@
 -- The ways read from tables of classes, of what they lead to and of dependences are those of the partition.
-use Rattle.std.proofs.Common.{◌≡◌, ℕ, ◌+◌, ◌<◌, ◌≤◌, List, [], ◌∷◌, ◌++◌, Bool, true, false, ◌&&◌, refl, sym, ap, ap₂, subst, arith, ◌∙◌, true≢false}
-use Rattle.std.proofs.Common.{length, map, get_or, nat_lt, inl, inr, tests}
-use Rattle.std.specs.List.{concat}
+use Rattle.std.proofs.Common.{◌≡◌, ℕ, ◌+◌, ◌<◌, ◌≤◌, List, [], ◌∷◌, ◌++◌, Bool, true, false, ◌&&◌, refl, sym, ap, ap₂, subst, subst₂, arith, ◌∙◌, true≢false}
+use Rattle.std.proofs.Common.{length, map, filter, get_or, nat_lt, inl, inr, tests}
+use Rattle.std.specs.List.{All, concat}
 use Rattle.std.proofs.lemmas.List.{length-append}
 use Rattle.std.proofs.lemmas.Option.{slice_get-get_or}
 use Rattle.tam_word.specs.Lists.{below, all_of, has}
-use Rattle.tam_word.proofs.Tests.{test-below}
+use Rattle.tam_word.proofs.Tests.{test-below, below-test}
 use Rattle.tam_word.proofs.Members.{In, in-below, get-in, in-has, has-in, in-filter, filter-in, below-in}
 use Rattle.tam_graph.specs.Edges.{Edges, reaches}
 use Rattle.tam_graph.proofs.Quotients.{under, unlooped-reaches, reaches-unlooped}
-use Rattle.tam_split.specs.Blocks.{BlockGraph, vertex_at, places, inlets_of, dependences}
+use Rattle.tam_split.specs.Blocks.{BlockGraph, vertex_at, places, inlets_of, outlets_of, dependences}
 use Rattle.tam_split.specs.Partitions.{Parts, class_of, leads_to}
 use Rattle.tam_split.specs.PartitionLaws.{IsBlockGraph, IsPartition}
 use Rattle.tam_split.specs.KeptParts.{AreClasses}
@@ -18,7 +18,7 @@ use Rattle.tam_sets.specs.Sets.{places_where}
 use Rattle.tam_sets.proofs.PlacesWhere.{places-same, has-where}
 use Rattle.tam_quotient.specs.declared.ways.Ways.{Ways}
 use Rattle.tam_quotient.specs.Quotients.{leads_to_outlet, allows, ahead_of, behind_of, entering_of, allowed_of}
-use Rattle.tam_quotient.specs.Tables.{set_at, column, enters, entered, is_led_to, is_met, permitted}
+use Rattle.tam_quotient.specs.Tables.{set_at, column, entered, is_met, permitted}
 use Rattle.tam_quotient.specs.Spreads.{renamed, AreBelow}
 use Rattle.tam_quotient.specs.Joins.{ways_of, ways_to}
 use Rattle.tam_quotient.proofs.Places.{same-test}
@@ -56,6 +56,21 @@ renamed-same f g (e ∷ es) h =
 map-same : (f g : ℕ → List ℕ) → ((k : ℕ) → f k ≡ g k) → (xs : List ℕ) → map f xs ≡ map g xs
 map-same f g h [] = refl
 map-same f g h (x ∷ xs) = ap₂ (λ (y : List ℕ) ys. y ∷ ys) (h x) (map-same f g h xs)
+
+-- lists that pass alike pass alike with one number more that does
+all-step : (s t : ℕ → Bool) (x : ℕ) (xs ys : List ℕ) → s x ≡ t x → all_of s xs ≡ all_of t ys → all_of s (x ∷ xs) ≡ all_of t (x ∷ ys)
+all-step s t x xs ys q i = go (t x) refl
+  where
+    go : (u : Bool) → t x ≡ u → all_of s (x ∷ xs) ≡ all_of t (x ∷ ys)
+    go true p = rw (all_of, q ∙ p, p) i
+    go false p = rw (all_of, q ∙ p, p) refl
+
+-- numbers below n have places in a list of n
+filtered_there : (test : ℕ → Bool) (n : ℕ) (xs names : List ℕ) → xs ≡ filter test (below n) → length names ≡ n → All (λ place. place < length names) xs
+filtered_there test n xs names e m k d h =
+    let i : In (get_or xs k d) (filter test (below n)) = subst (λ ys. In (get_or xs k d) ys) e (get-in xs k (get_or xs k d) (slice_get-get_or xs k d h)) in
+    let l = in-below (get_or xs k d) n (in-filter test (get_or xs k d) (below n) i).0 in
+    omega (arith, l, m)
 
 module _ (b : BlockGraph) (graph : IsBlockGraph b) (ps : Parts) (whole : IsPartition b ps) (least : length ps ≤ 512) where
   -- the class of each place
@@ -120,6 +135,11 @@ module _ (b : BlockGraph) (graph : IsBlockGraph b) (ps : Parts) (whole : IsParti
       go true p = test-below i (length b.vertices) p
       go false p = let l : length b.vertices ≤ i = grind (arith, tests) in absurd (true≢false (sym h ∙ none-inlet b i l))
 
+  -- the inlets have a place exactly where it is one
+  inlets-has : (i : ℕ) → has (inlets_of b) i ≡ (vertex_at b i).inlet
+  inlets-has i = same-test (has (inlets_of b) i) (vertex_at b i).inlet (λ t. (in-filter (λ x. (vertex_at b x).inlet) i (places b) (has-in (inlets_of b) i t)).1)
+      (λ t. in-has (inlets_of b) i (filter-in (λ x. (vertex_at b x).inlet) i (places b) (below-in i (length b.vertices) (inlet-low i t)) t))
+
   -- the dependences of a vertex have the inlets that reach it
   depends-has : (i o : ℕ) → (vertex_at b i).inlet ≡ true → o < length b.vertices → has (set_at depends o) i ≡ reaches b.edges i o
   depends-has i o h l =
@@ -143,46 +163,57 @@ module _ (b : BlockGraph) (graph : IsBlockGraph b) (ps : Parts) (whole : IsParti
         go c false p = rw p refl
 
     -- which inlets lead to it
-    entered-entering : entered b classes leads k ≡ entering_of b ps k
-    entered-entering = places-same _ _ (λ i l. go i (vertex_at b i).inlet refl)
+    entered-entering : entered (inlets_of b) classes (column leads k) ≡ entering_of b ps k
+    entered-entering = ap (entered (inlets_of b) classes) column-behind ∙ places-same _ _ (λ i l. ap (λ t. t && has (behind_of b ps k) (get_or classes i 0)) (inlets-has i)
+        ∙ go i (vertex_at b i).inlet refl)
       where
-        go : (i : ℕ) (t : Bool) → (vertex_at b i).inlet ≡ t → enters b classes leads k i ≡ ((vertex_at b i).inlet && leads_to b.edges ps (class_of ps i) k)
-        go i false p = rw (enters, p) refl
+        go : (i : ℕ) (t : Bool) → (vertex_at b i).inlet ≡ t
+            → ((vertex_at b i).inlet && has (behind_of b ps k) (get_or classes i 0)) ≡ ((vertex_at b i).inlet && leads_to b.edges ps (class_of ps i) k)
+        go i false p = rw p refl
         go i true p =
             let l = inlet-low i p in
-            rw (enters, p) (ap (λ c. has (set_at leads c) k) (class-at i l) ∙ lead-has (class_of ps i) k (whole.in_one i l) small)
+            let c : class_of ps i < length ps = whole.in_one i l in
+            rw p (ap (has (behind_of b ps k)) (class-at i l)
+            ∙ (has-where (λ d. nat_lt d (length ps) && leads_to b.edges ps d k) (class_of ps i) (omega (arith, c, least))
+            ∙ ap (λ t. t && leads_to b.edges ps (class_of ps i) k) (below-test (class_of ps i) (length ps) c)))
 
     -- and which are allowed
-    permitted-allowed : permitted b classes (set_at leads k) depends ≡ allowed_of b ps k
-    permitted-allowed = places-same _ _ (λ i l. go i (vertex_at b i).inlet refl)
+    permitted-allowed : permitted (inlets_of b) (outlets_of b) classes (set_at leads k) depends ≡ allowed_of b ps k
+    permitted-allowed = places-same _ _ (λ i l. ap (λ t. t && all_of (is_met classes (set_at leads k) depends i) (outlets_of b)) (inlets-has i)
+        ∙ go i (vertex_at b i).inlet refl)
       where
-        led : (o : ℕ) → o < length b.vertices → is_led_to b classes (set_at leads k) o ≡ leads_to_outlet b ps k o
-        led o h = ap (λ t. (vertex_at b o).outlet && t)
-            (ap (has (set_at leads k)) (class-at o h) ∙ lead-has k (class_of ps o) there (let c : class_of ps o < length ps = whole.in_one o h in omega (arith, c, least)))
+        led : (o : ℕ) → o < length b.vertices → has (set_at leads k) (get_or classes o 0) ≡ leads_to b.edges ps k (class_of ps o)
+        led o h = ap (has (set_at leads k)) (class-at o h) ∙ lead-has k (class_of ps o) there (let c : class_of ps o < length ps = whole.in_one o h in omega (arith, c, least))
 
-        same : (i o : ℕ) → (vertex_at b i).inlet ≡ true → o < length b.vertices → is_met b classes (set_at leads k) depends i o ≡ allows b ps k i o
-        same i o p h = step (leads_to_outlet b ps k o) refl
+        same : (i o : ℕ) → (vertex_at b i).inlet ≡ true → o < length b.vertices → (vertex_at b o).outlet ≡ true
+            → is_met classes (set_at leads k) depends i o ≡ allows b ps k i o
+        same i o p h out = step (leads_to b.edges ps k (class_of ps o)) refl
           where
-            step : (t : Bool) → leads_to_outlet b ps k o ≡ t → is_met b classes (set_at leads k) depends i o ≡ allows b ps k i o
-            step true e = rw (is_met, led o h ∙ e, allows, e) (depends-has i o p h)
-            step false e = rw (is_met, led o h ∙ e, allows, e) refl
+            step : (t : Bool) → leads_to b.edges ps k (class_of ps o) ≡ t → is_met classes (set_at leads k) depends i o ≡ allows b ps k i o
+            step true e = rw (is_met, led o h ∙ e, allows, leads_to_outlet, out, e) (depends-has i o p h)
+            step false e = rw (is_met, led o h ∙ e, allows, leads_to_outlet, out, e) refl
 
-        all-same : (s t : ℕ → Bool) (xs : List ℕ) → ((x : ℕ) → In x xs → s x ≡ t x) → all_of s xs ≡ all_of t xs
-        all-same s t [] h = refl
-        all-same s t (x ∷ xs) h = step (t x) refl (all-same s t xs (λ y i. h y (inr i)))
+        outlets-all : (i : ℕ) → (vertex_at b i).inlet ≡ true → (os : List ℕ) → ((o : ℕ) → In o os → o < length b.vertices)
+            → all_of (is_met classes (set_at leads k) depends i) (filter (λ o. (vertex_at b o).outlet) os) ≡ all_of (allows b ps k i) os
+        outlets-all i p [] low = refl
+        outlets-all i p (o ∷ os) low = step (vertex_at b o).outlet refl (outlets-all i p os (λ x m. low x (inr m)))
           where
-            step : (u : Bool) → t x ≡ u → all_of s xs ≡ all_of t xs → all_of s (x ∷ xs) ≡ all_of t (x ∷ xs)
-            step true e i = rw (all_of, h x (inl refl) ∙ e, e) i
-            step false e i = rw (all_of, h x (inl refl) ∙ e, e) refl
+            step : (t : Bool) → (vertex_at b o).outlet ≡ t
+                → all_of (is_met classes (set_at leads k) depends i) (filter (λ o. (vertex_at b o).outlet) os) ≡ all_of (allows b ps k i) os
+                → all_of (is_met classes (set_at leads k) depends i) (filter (λ o. (vertex_at b o).outlet) (o ∷ os)) ≡ all_of (allows b ps k i) (o ∷ os)
+            step true e r =
+                let kept : filter (λ x. (vertex_at b x).outlet) (o ∷ os) ≡ o ∷ filter (λ x. (vertex_at b x).outlet) os = rw e refl in
+                ap (all_of (is_met classes (set_at leads k) depends i)) kept
+                ∙ all-step (is_met classes (set_at leads k) depends i) (allows b ps k i) o (filter (λ x. (vertex_at b x).outlet) os) os (same i o p (low o (inl refl)) e) r
+            step false e r = rw (e, all_of) r
 
-        go : (i : ℕ) (t : Bool) → (vertex_at b i).inlet ≡ t
-            → ((vertex_at b i).inlet && all_of (is_met b classes (set_at leads k) depends i) (places b)) ≡ ((vertex_at b i).inlet && all_of (allows b ps k i) (places b))
+        go : (i : ℕ) (t : Bool) → (vertex_at b i).inlet ≡ t → ((vertex_at b i).inlet && all_of (is_met classes (set_at leads k) depends i) (outlets_of b))
+            ≡ ((vertex_at b i).inlet && all_of (allows b ps k i) (places b))
         go i false p = rw p refl
-        go i true p = ap (λ t. (vertex_at b i).inlet && t) (all-same (is_met b classes (set_at leads k) depends i) (allows b ps k i) (places b)
-            (λ o m. same i o p (in-below o (length b.vertices) m)))
+        go i true p = ap (λ t. (vertex_at b i).inlet && t) (outlets-all i p (places b) (λ o m. in-below o (length b.vertices) m))
 
     -- so the ways are those of the partition
-    pub ways-same : ways_to b classes leads depends k ≡ ways_of b ps k
+    pub ways-same : ways_to (inlets_of b) (outlets_of b) classes leads depends k ≡ ways_of b ps k
     ways-same = ways-eq (lead-at k there) column-behind entered-entering permitted-allowed
       where
         made : List ℕ → List ℕ → List ℕ → List ℕ → Ways
@@ -218,21 +249,20 @@ module _ (b : BlockGraph) (graph : IsBlockGraph b) (ps : Parts) (whole : IsParti
   pub depends-count : (sets : List (List ℕ)) → sets ≡ depends → length sets ≡ length b.vertices
   depends-count sets e = ap length e ∙ length-table (dependences b) (length b.vertices)
 
-  -- the class of each place is one of them
-  pub in_range : (names : List ℕ) (sets : List (List ℕ)) → names ≡ classes → sets ≡ leads → (x : ℕ) → x < length names → get_or names x 0 < length sets
-  in_range names sets p q x h =
-      let n = classes-count names p in
-      let l : x < length b.vertices = omega (arith, h, n) in
-      let r : get_or names x 0 ≡ class_of ps x = ap (λ xs. get_or xs x 0) p ∙ class-at x l in
-      let low : class_of ps x < length ps = whole.in_one x l in
-      let m = leads-count sets q in
-      omega (arith, r, low, m)
+  -- each inlet has a class
+  pub inlets_there : (ins names : List ℕ) → ins ≡ inlets_of b → names ≡ classes → All (λ place. place < length names) ins
+  inlets_there ins names p q = filtered_there (λ x. (vertex_at b x).inlet) (length b.vertices) ins names p (classes-count names q)
+
+  -- and each outlet
+  pub outlets_there : (outs names : List ℕ) → outs ≡ outlets_of b → names ≡ classes → All (λ place. place < length names) outs
+  outlets_there outs names p q = filtered_there (λ x. (vertex_at b x).outlet) (length b.vertices) outs names p (classes-count names q)
 
   -- the ways read from them are those of the partition
-  pub are_ways : (names : List ℕ) (sets needs : List (List ℕ)) (k : ℕ) → names ≡ classes → sets ≡ leads → needs ≡ depends → k < length ps
-      → ways_to b names sets needs k ≡ ways_of b ps k
-  are_ways names sets needs k p q r h =
-      ap (λ xs. ways_to b xs sets needs k) p ∙ (ap (λ xs. ways_to b classes xs needs k) q ∙ (ap (λ xs. ways_to b classes leads xs k) r ∙ ways-same k h))
+  pub are_ways : (ins outs names : List ℕ) (sets needs : List (List ℕ)) (k : ℕ) → ins ≡ inlets_of b → outs ≡ outlets_of b → names ≡ classes → sets ≡ leads
+      → needs ≡ depends → k < length ps → ways_to ins outs names sets needs k ≡ ways_of b ps k
+  are_ways ins outs names sets needs k i o p q r h = subst₂ (λ is os. ways_to is os names sets needs k ≡ ways_of b ps k) (sym i) (sym o)
+      (ap (λ xs. ways_to (inlets_of b) (outlets_of b) xs sets needs k) p ∙ (ap (λ xs. ways_to (inlets_of b) (outlets_of b) classes xs needs k) q
+      ∙ (ap (λ xs. ways_to (inlets_of b) (outlets_of b) classes leads xs k) r ∙ ways-same k h)))
 
 -- what stands at the place of a class in the table of ways
 pub way-read : (b : BlockGraph) (ps : Parts) (ways : List Ways) (k : ℕ) (w : Ways) → ways ≡ map (ways_of b ps) (below (length ps)) → k < length ps

@@ -1,7 +1,8 @@
 -- Lists and sets that grow by one number, and what stands at a place of a list that has an entry for each number.
-use Rattle.std.proofs.Common.{◌≡◌, ℕ, zero, suc, ◌+◌, ◌<◌, ◌≤◌, List, [], ◌∷◌, ◌++◌, Bool, true, false, ◌&&◌, refl, sym, ap, subst, arith, ◌∙◌, true≢false, ◌==◌}
-use Rattle.std.proofs.Common.{length, map, get_or, take, slice_get}
-use Rattle.std.proofs.lemmas.List.{map-append, get_or-map, ext_get_or, take_more}
+use Rattle.std.proofs.Common.{◌≡◌, ℕ, zero, suc, ◌+◌, ◌<◌, ◌≤◌, List, [], ◌∷◌, ◌++◌, Bool, true, false, ◌&&◌, refl, sym, ap, subst, arith, ◌∙◌, true≢false, ◌==◌, ◌||◌}
+use Rattle.std.proofs.Common.{length, map, filter, get_or, take, slice_get}
+use Rattle.std.proofs.lemmas.List.{map-append, append-nil, get_or-map, ext_get_or, take_more}
+use Rattle.std.proofs.lemmas.List.Elements.{filter-append}
 use Rattle.std.proofs.lemmas.Option.{get_or_from_slice_get, slice_get-get_or}
 use Rattle.std.specs.List.{list_any}
 use Rattle.tam_word.specs.Lists.{below, all_of, any_of, has}
@@ -26,21 +27,18 @@ use Rattle.tam_quotient.proofs.Spreading.{row-grows, row-stays}
 pub below-more : (n : ℕ) → below (n + 1) ≡ below n ++ n ∷ []
 below-more n = let e : n + 1 ≡ suc n = omega arith in ap below e
 
--- all of them pass where those below n do, and n
-pub all-more : (test : ℕ → Bool) (n : ℕ) → all_of test (below (n + 1)) ≡ (all_of test (below n) && test n)
-all-more test n = ap (all_of test) (below-more n) ∙ go (below n)
+-- all of them pass where those before do, and the last
+pub all-more : (test : ℕ → Bool) (xs : List ℕ) (n : ℕ) → all_of test (xs ++ n ∷ []) ≡ (all_of test xs && test n)
+all-more test [] n = last (test n) refl
   where
-    go : (xs : List ℕ) → all_of test (xs ++ n ∷ []) ≡ (all_of test xs && test n)
-    go [] = last (test n) refl
-      where
-        last : (t : Bool) → test n ≡ t → all_of test (n ∷ []) ≡ test n
-        last true p = rw (all_of, p) refl
-        last false p = rw (all_of, p) refl
-    go (x ∷ xs) = step (test x) refl (go xs)
-      where
-        step : (t : Bool) → test x ≡ t → all_of test (xs ++ n ∷ []) ≡ (all_of test xs && test n) → all_of test (x ∷ xs ++ n ∷ []) ≡ (all_of test (x ∷ xs) && test n)
-        step true p i = rw (all_of, p) i
-        step false p i = rw (all_of, p) refl
+    last : (t : Bool) → test n ≡ t → all_of test (n ∷ []) ≡ test n
+    last true p = rw (all_of, p) refl
+    last false p = rw (all_of, p) refl
+all-more test (x ∷ xs) n = step (test x) refl (all-more test xs n)
+  where
+    step : (t : Bool) → test x ≡ t → all_of test (xs ++ n ∷ []) ≡ (all_of test xs && test n) → all_of test (x ∷ xs ++ n ∷ []) ≡ (all_of test (x ∷ xs) && test n)
+    step true p i = rw (all_of, p) i
+    step false p i = rw (all_of, p) refl
 
 -- what all of them become is what those below n become, and n
 pub map-more : {X : Type 0} (f : ℕ → X) (n : ℕ) → map f (below (n + 1)) ≡ map f (below n) ++ f n ∷ []
@@ -113,24 +111,84 @@ none-inlet b x h = go b.vertices x h
 pub alone-reaches : (k : ℕ) → with_place k [] ≡ places_where (reaches [] k)
 alone-reaches k = places-same _ _ (λ x l. same-test (x == k) (k == x) (λ h. eq-number k x (sym (number-eq x k h))) (λ h. eq-number x k (sym (number-eq k x h))))
 
+-- the first n + 1 are the first n and one more
+pub take-next : (xs : List ℕ) (n x : ℕ) → n < length xs → x ≡ get_or xs n x → take (n + 1) xs ≡ take n xs ++ x ∷ []
+take-next xs n x h e = take_more xs n x h ∙ ap (λ y. take n xs ++ y ∷ []) (sym e)
+
+-- a list with one number more has that number too
+pub has-more : (xs : List ℕ) (y x : ℕ) → has (xs ++ y ∷ []) x ≡ (has xs x || (y == x))
+has-more [] y x = last (y == x) refl
+  where
+    last : (t : Bool) → (y == x) ≡ t → has (y ∷ []) x ≡ (y == x)
+    last true p = rw (any_of, p) refl
+    last false p = rw (any_of, p) refl
+has-more (z ∷ xs) y x = step (z == x) refl (has-more xs y x)
+  where
+    step : (t : Bool) → (z == x) ≡ t → has (xs ++ y ∷ []) x ≡ (has xs x || (y == x)) → has (z ∷ xs ++ y ∷ []) x ≡ (has (z ∷ xs) x || (y == x))
+    step true p i = rw (any_of, p) refl
+    step false p i = rw (any_of, p) i
+
+-- two numbers are the same whichever is named first
+same-turned : (x y : ℕ) → (x == y) ≡ (y == x)
+same-turned x y = same-test (x == y) (y == x) (λ h. eq-number y x (sym (number-eq x y h))) (λ h. eq-number x y (sym (number-eq y x h)))
+
+-- one of the places that passes a further test is put in
+pub places-put : (xs : List ℕ) (y : ℕ) (test : ℕ → Bool) → test y ≡ true
+    → with_place y (places_where (λ x. has xs x && test x)) ≡ places_where (λ x. has (xs ++ y ∷ []) x && test x)
+places-put xs y test h = places-same _ _ (λ x l. rw (has-where (λ z. has xs z && test z) x l, has-more xs y x, same-turned y x) (go x (x == y) refl (has xs x)))
+  where
+    go : (x : ℕ) (t : Bool) → (x == y) ≡ t → (s : Bool) → ((s && test x) || (x == y)) ≡ ((s || (x == y)) && test x)
+    go x true p true = let f : test x ≡ true = ap test (number-eq x y p) ∙ h in rw (p, f) refl
+    go x true p false = let f : test x ≡ true = ap test (number-eq x y p) ∙ h in rw (p, f) refl
+    go x false p true = rw p (last (test x))
+      where
+        last : (t : Bool) → (t || false) ≡ t
+        last true = refl
+        last false = refl
+    go x false p false = rw p refl
+
+-- and one that doesn't pass is left out
+pub places-skip : (xs : List ℕ) (y : ℕ) (test : ℕ → Bool) → test y ≡ false
+    → places_where (λ x. has xs x && test x) ≡ places_where (λ x. has (xs ++ y ∷ []) x && test x)
+places-skip xs y test h = places-same _ _ (λ x l. rw (has-more xs y x, same-turned y x) (go x (x == y) refl (has xs x)))
+  where
+    go : (x : ℕ) (t : Bool) → (x == y) ≡ t → (s : Bool) → (s && test x) ≡ ((s || (x == y)) && test x)
+    go x true p true = refl
+    go x true p false = let f : test x ≡ false = ap test (number-eq x y p) ∙ h in rw (p, f) refl
+    go x false p true = refl
+    go x false p false = rw p refl
+
+-- one place more of a set
+pub places-more : (xs : List ℕ) (y : ℕ) → with_place y (places_where (has xs)) ≡ places_where (has (xs ++ y ∷ []))
+places-more xs y = places-same _ _ (λ x l. rw (has-where (has xs) x l, has-more xs y x, same-turned y x) refl)
+
 -- one condition more: the inlets that meet it too
-pub met-more : (inlet : ℕ → Bool) (test : ℕ → ℕ → Bool) (n : ℕ) (xs : List ℕ) → ((i : ℕ) → i < 512 → test i n ≡ has xs i)
-    → met (places_where (λ i. inlet i && all_of (test i) (below n))) xs ≡ places_where (λ i. inlet i && all_of (test i) (below (n + 1)))
-met-more inlet test n xs h = places-same _ _ (λ i l. rw (has-where (λ j. inlet j && all_of (test j) (below n)) i l, all-more (test i) n, h i l)
-    (regroup (inlet i) (all_of (test i) (below n)) (has xs i)))
+pub met-more : (inlet : ℕ → Bool) (test : ℕ → ℕ → Bool) (os : List ℕ) (o : ℕ) (xs : List ℕ) → ((i : ℕ) → i < 512 → test i o ≡ has xs i)
+    → met (places_where (λ i. inlet i && all_of (test i) os)) xs ≡ places_where (λ i. inlet i && all_of (test i) (os ++ o ∷ []))
+met-more inlet test os o xs h = places-same _ _ (λ i l. rw (has-where (λ j. inlet j && all_of (test j) os) i l, all-more (test i) os o, h i l)
+    (regroup (inlet i) (all_of (test i) os) (has xs i)))
   where
     regroup : (s t u : Bool) → ((s && t) && u) ≡ (s && (t && u))
     regroup true t u = refl
     regroup false t u = refl
 
 -- and where it holds anyway, they are the same
-pub met-same : (inlet : ℕ → Bool) (test : ℕ → ℕ → Bool) (n : ℕ) → ((i : ℕ) → test i n ≡ true)
-    → places_where (λ i. inlet i && all_of (test i) (below n)) ≡ places_where (λ i. inlet i && all_of (test i) (below (n + 1)))
-met-same inlet test n h = places-same _ _ (λ i l. rw (all-more (test i) n, h i) (ap (λ t. inlet i && t) (sym (same (all_of (test i) (below n))))))
+pub met-same : (inlet : ℕ → Bool) (test : ℕ → ℕ → Bool) (os : List ℕ) (o : ℕ) → ((i : ℕ) → test i o ≡ true)
+    → places_where (λ i. inlet i && all_of (test i) os) ≡ places_where (λ i. inlet i && all_of (test i) (os ++ o ∷ []))
+met-same inlet test os o h = places-same _ _ (λ i l. rw (all-more (test i) os o, h i) (ap (λ t. inlet i && t) (sym (same (all_of (test i) os)))))
   where
     same : (t : Bool) → (t && true) ≡ t
     same true = refl
     same false = refl
+
+-- a place that passes is gathered
+pub filter-put : (test : ℕ → Bool) (n : ℕ) → test n ≡ true → filter test (below (n + 1)) ≡ filter test (below n) ++ n ∷ []
+filter-put test n h = ap (filter test) (below-more n) ∙ (filter-append test (below n) (n ∷ []) ∙ ap (λ xs. filter test (below n) ++ xs) (rw h refl))
+
+-- and another isn't
+pub filter-skip : (test : ℕ → Bool) (n : ℕ) → test n ≡ false → filter test (below (n + 1)) ≡ filter test (below n)
+filter-skip test n h =
+    ap (filter test) (below-more n) ∙ (filter-append test (below n) (n ∷ []) ∙ (ap (λ xs. filter test (below n) ++ xs) (rw h refl) ∙ append-nil (filter test (below n))))
 
 -- ---- edges one by one
 

@@ -11,13 +11,13 @@ use Rattle.tam_quotient.specs.declared.ways.Ways.{Ways}
 abbrev pub ways_of : BlockGraph → Parts → ℕ → Ways
 ways_of b ps k = record { ahead = ahead_of b ps k; behind = behind_of b ps k; entering = entering_of b ps k; allowed = allowed_of b ps k }
 
--- the same, by the class of each place, what each class leads to and the inlets on which each vertex depends
-abbrev pub ways_to : BlockGraph → List ℕ → List (List ℕ) → List (List ℕ) → ℕ → Ways
-ways_to b classes leads depends k = record {
+-- the same, by the inlets, the outlets, the class of each place, what each class leads to and the inlets on which each vertex depends
+abbrev pub ways_to : List ℕ → List ℕ → List ℕ → List (List ℕ) → List (List ℕ) → ℕ → Ways
+ways_to inlets outlets classes leads depends k = record {
   ahead = set_at leads k;
   behind = column leads k;
-  entering = entered b classes leads k;
-  allowed = permitted b classes (set_at leads k) depends;
+  entering = entered inlets classes (column leads k);
+  allowed = permitted inlets outlets classes (set_at leads k) depends;
 }
 
 -- an outlet that one of two classes leads to doesn't depend on an inlet that leads to the other

@@ -37,7 +37,7 @@ pub(crate) fn classes_of(alloc: Global, b: &BlockGraph, p: &Parts) -> Result<Vec
 {
     let mut classes = Vec::new(alloc);
     for place in 0..b.vertices().len() as u32 {
-        classes.push(class_of(p, place)).map_err(|_| NoMemory)?;
+        classes.push(class_of(p, place))?;
     }
     Ok(classes)
 }

@@ -1,10 +1,10 @@
 // The ways among the classes of a partition.
-ghost use Rattle.std.specs.Prelude.{ℕ, ◌≡◌, ◌<◌, ◌≤◌, length, map, IfOk, slice_index};
-ghost use Rattle.tam_word.specs.Lists.{below};
-ghost use Rattle.tam_split.specs.Blocks.{vertex_at, places, dependences};
+ghost use Rattle.std.specs.Prelude.{◌≡◌, ◌<◌, ◌≤◌, All, length, map, IfOk};
+ghost use Rattle.tam_word.specs.Lists.{below, has};
+ghost use Rattle.tam_split.specs.Blocks.{places, inlets_of, outlets_of, dependences};
 ghost use Rattle.tam_split.specs.PartitionLaws.{IsPartition};
 ghost use Rattle.tam_sets.specs.Sets.{places_where};
-ghost use Rattle.tam_quotient.specs.Tables.{column, enters, entered, is_led_to, permitted};
+ghost use Rattle.tam_quotient.specs.Tables.{column, entered, permitted};
 ghost use Rattle.tam_quotient.specs.Joins.{ways_of, ways_to};
 
 use crate::Ways;
@@ -29,31 +29,64 @@ pub fn quotient(
 {
     let classes = classes_of(alloc, b, p)?;
     let leads = spread(alloc, b.edges(), &classes, p.classes())?;
+    let inlets = inlets(alloc, b)?;
+    let outlets = outlets(alloc, b)?;
     let mut ways = Vec::new(alloc);
     for k in 0..p.classes() {
-        let way = ways_to(b, &classes, &leads, depends, k);
-        if ways.push(way).is_err() {
-            return Err(NoMemory);
-        }
+        ways.push(ways_to(&inlets, &outlets, &classes, &leads, depends, k))?;
     }
     Ok(ways)
 }
 
+// The places of the inlets of a block.
+fn inlets(alloc: Global, b: &BlockGraph) -> Result<Vec<u32>, NoMemory>
+    ensures value { IfOk result (λ inlets. inlets.items ≡ inlets_of b.now) }
+{
+    let mut inlets = Vec::new(alloc);
+    for place in 0..b.vertices().len() as u32 {
+        if is_inlet(b, place) {
+            inlets.push(place)?;
+        }
+    }
+    Ok(inlets)
+}
+
+// The places of the outlets of a block.
+fn outlets(alloc: Global, b: &BlockGraph) -> Result<Vec<u32>, NoMemory>
+    ensures value { IfOk result (λ outlets. outlets.items ≡ outlets_of b.now) }
+{
+    let mut outlets = Vec::new(alloc);
+    for place in 0..b.vertices().len() as u32 {
+        if is_outlet(b, place) {
+            outlets.push(place)?;
+        }
+    }
+    Ok(outlets)
+}
+
 // The ways to class k and from it, by the class of each place and by what each class leads to.
-fn ways_to(b: &BlockGraph, classes: &[u32], leads: &[Set], depends: &[Set], k: u32) -> Ways
-    requires few { length leads.now ≤ 512 }
+fn ways_to(
+    inlets: &[u32],
+    outlets: &[u32],
+    classes: &[u32],
+    leads: &[Set],
+    depends: &[Set],
+    k: u32,
+) -> Ways
+    requires few { (length leads.now ≤ 512) × (length classes.now ≤ 512) }
     requires there { k < length leads.now }
-    requires each { length classes.now ≡ length b.now.vertices }
-    requires in_range { (x : ℕ) → x < length classes.now → slice_index classes.now x < length leads.now }
-    requires depends { length depends.now ≡ length b.now.vertices }
-    ensures value { result ≡ ways_to b.now classes.now leads.now depends.now k }
+    requires inlets { All (λ place. place < length classes.now) inlets.now }
+    requires outlets { All (λ place. place < length classes.now) outlets.now }
+    requires depends { length depends.now ≡ length classes.now }
+    ensures value { result ≡ ways_to inlets.now outlets.now classes.now leads.now depends.now k }
 {
     let ahead = leads[k as usize];
+    let behind = behind(leads, k);
     Ways {
         ahead,
-        behind: behind(leads, k),
-        entering: entering(b, classes, leads, k),
-        allowed: allowed(b, classes, &ahead, depends),
+        behind,
+        entering: entering(inlets, classes, &behind),
+        allowed: allowed(inlets, outlets, classes, &ahead, depends),
     }
 }
 
@@ -71,62 +104,46 @@ fn behind(leads: &[Set], k: u32) -> Set
     set
 }
 
-// The inlets whose classes lead to class k.
-fn entering(b: &BlockGraph, classes: &[u32], leads: &[Set], k: u32) -> Set
-    requires each { length classes.now ≡ length b.now.vertices }
-    requires in_range { (x : ℕ) → x < length classes.now → slice_index classes.now x < length leads.now }
-    ensures value { result ≡ entered b.now classes.now leads.now k }
+// The inlets whose classes are among those that lead to a class.
+fn entering(inlets: &[u32], classes: &[u32], behind: &Set) -> Set
+    requires few { length classes.now ≤ 512 }
+    requires inlets { All (λ place. place < length classes.now) inlets.now }
+    ensures value { result ≡ entered inlets.now classes.now behind.now }
 {
     let mut set = Set::empty();
-    for place in 0..b.vertices().len() as u32 {
-        if enters(b, classes, leads, k, place) {
+    for &place in inlets {
+        if behind.has(classes[place as usize]) {
             set.insert(place);
         }
     }
     set
 }
 
-// Whether the vertex is an inlet whose class leads to class k.
-fn enters(b: &BlockGraph, classes: &[u32], leads: &[Set], k: u32, place: u32) -> bool
-    requires there { place < length classes.now }
-    requires in_range { slice_index classes.now place < length leads.now }
-    ensures value { result ≡ enters b.now classes.now leads.now k place }
-{
-    is_inlet(b, place) && leads[classes[place as usize] as usize].has(k)
-}
-
 // The inlets on which each outlet depends whose class is among those that a class leads to.
-fn allowed(b: &BlockGraph, classes: &[u32], ahead: &Set, depends: &[Set]) -> Set
-    requires each { length classes.now ≡ length b.now.vertices }
-    requires depends { length depends.now ≡ length b.now.vertices }
-    ensures value { result ≡ permitted b.now classes.now ahead.now depends.now }
+fn allowed(inlets: &[u32], outlets: &[u32], classes: &[u32], ahead: &Set, depends: &[Set]) -> Set
+    requires few { length classes.now ≤ 512 }
+    requires inlets { All (λ place. place < length classes.now) inlets.now }
+    requires outlets { All (λ place. place < length classes.now) outlets.now }
+    requires depends { length depends.now ≡ length classes.now }
+    ensures value { result ≡ permitted inlets.now outlets.now classes.now ahead.now depends.now }
 {
-    let mut set = inlets(b);
-    for place in 0..b.vertices().len() as u32 {
-        if is_led_to(b, classes, ahead, place) {
+    let mut set = set_of(inlets);
+    for &place in outlets {
+        if ahead.has(classes[place as usize]) {
             set = set.meet(&depends[place as usize]);
         }
     }
     set
 }
 
-// Whether the vertex is an outlet of one of the classes.
-fn is_led_to(b: &BlockGraph, classes: &[u32], ahead: &Set, place: u32) -> bool
-    requires there { place < length classes.now }
-    ensures value { result ≡ is_led_to b.now classes.now ahead.now place }
-{
-    is_outlet(b, place) && ahead.has(classes[place as usize])
-}
-
-// The inlets of a block.
-fn inlets(b: &BlockGraph) -> Set
-    ensures value { result ≡ places_where (λ i. (vertex_at b.now i).inlet) }
+// The set of these places.
+fn set_of(places: &[u32]) -> Set
+    requires small { All (λ place. place < 512) places.now }
+    ensures value { result ≡ places_where (has places.now) }
 {
     let mut set = Set::empty();
-    for place in 0..b.vertices().len() as u32 {
-        if is_inlet(b, place) {
-            set.insert(place);
-        }
+    for &place in places {
+        set.insert(place);
     }
     set
 }

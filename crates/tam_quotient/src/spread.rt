@@ -47,7 +47,7 @@ fn alone(alloc: Global, n: u32) -> Result<Vec<Set>, NoMemory>
     for k in 0..n {
         let mut set = Set::empty();
         set.insert(k);
-        sets.push(set).map_err(|_| NoMemory)?;
+        sets.push(set)?;
     }
     Ok(sets)
 }

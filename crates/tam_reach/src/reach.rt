@@ -50,9 +50,7 @@ fn each_alone(alloc: Global, count: u32) -> Result<Vec<Set>, NoMemory>
     for place in 0..count {
         let mut alone = Set::empty();
         alone.insert(place);
-        if sets.push(alone).is_err() {
-            return Err(NoMemory);
-        }
+        sets.push(alone)?;
     }
     Ok(sets)
 }

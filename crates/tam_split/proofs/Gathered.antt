@@ -1,16 +1,17 @@
 -- Vertices and edges gathered one after another.
 use Rattle.std.proofs.Common.{◌≡◌, ℕ, zero, suc, ◌+◌, ◌<◌, Bool, true, false, cond, ◌==◌, List, [], ◌∷◌, ◌++◌, refl, sym, ap, ap₂, ◌∙◌}
-use Rattle.std.proofs.Common.{arith, length, map, filter, flat_map, take, get_or, slice_get, Some}
+use Rattle.std.proofs.Common.{arith, length, map, filter, flat_map, take, get_or, slice_get, Option, Some, subst}
 use Rattle.std.proofs.Common.{add-one, append_assoc}
 use Rattle.std.proofs.lemmas.List.{map-append, append-nil, take_more, length-take}
 use Rattle.std.proofs.lemmas.List.Concat.{flat_map-append}
 use Rattle.std.proofs.lemmas.List.Elements.{filter-append}
-use Rattle.tam_word.specs.Lists.{below, placed_from}
+use Rattle.tam_word.specs.Lists.{below, placed_from, has}
 use Rattle.tam_word.proofs.Tests.{eq-number, differs-number}
 use Rattle.tam_graph.specs.declared.node.Node.{Node}
 use Rattle.tam_graph.specs.Graphs.{Code, or_kind, or_block, kind_at, block_at}
 use Rattle.tam_split.specs.declared.vertex.Vertex.{Vertex}
-use Rattle.tam_split.specs.Blocks.{vertices_of, feeds, edges_from}
+use Rattle.tam_split.specs.Blocks.{vertices_of, is_ask, taken_by, feeds, edges_from}
+use Rattle.tam_split.specs.Takers.{or_nothing, edges_to_takers, TakeTheSame}
 use Rattle.tam_graph.specs.Edges.{Edges}
 
 -- ---- vertices
@@ -58,6 +59,10 @@ step-same c b n vs line there other before = before ∙ sym (vertices-same c b n
 
 -- ---- edges
 
+-- what is kept of what the vertices take
+abbrev pub Taken : Type 0
+Taken = List (Option (List ℕ))
+
 -- an element more has the next place
 placed-append : {X : Type 0} (n : ℕ) (xs ys : List X) → placed_from n (xs ++ ys) ≡ placed_from n xs ++ placed_from (n + length xs) ys
 placed-append n [] ys = ap (λ m. placed_from m ys) (let e : n ≡ n + 0 = omega arith in e)
@@ -73,35 +78,88 @@ placed-more xs n d h =
     ap (placed_from 0) (take_more xs n d h) ∙ (placed-append 0 (take n xs) (get_or xs n d ∷ []) ∙ ap
     (λ m. placed_from 0 (take n xs) ++ (m, get_or xs n d) ∷ []) long)
 
--- the edges from a vertex to the first n
-abbrev pub edges_up_to : Code → List Vertex → ℕ × Vertex → ℕ → Edges
-edges_up_to c vs u n = edges_from c (placed_from 0 (take n vs)) u
+-- the edges to the first n takers
+abbrev pub edges_up_to : Taken → ℕ → ℕ → ℕ → Edges
+edges_up_to ts place node n = edges_to_takers (take n ts) place node
 
--- one vertex more
-edges-next : (c : Code) (vs : List Vertex) (u : ℕ × Vertex) (n : ℕ) (d : Vertex) → n < length vs → (t : Bool) → feeds c u.1 (get_or vs n d) ≡ t
-    → edges_up_to c vs u (n + 1) ≡ edges_up_to c vs u n ++ cond t ((u.0, n) ∷ []) []
-edges-next c vs u n d h t e =
-    let f : ℕ × Vertex → Bool = λ v. feeds c u.1 v.1 in
-    let g : ℕ × Vertex → ℕ × ℕ = λ v. (u.0, v.0) in
-    let one : map g (filter f ((n, get_or vs n d) ∷ [])) ≡ cond t ((u.0, n) ∷ []) [] = last t e in
-    ap (λ rs. map g (filter f rs)) (placed-more vs n d h)
-    ∙ (ap (map g) (filter-append f (placed_from 0 (take n vs)) ((n, get_or vs n d) ∷ []))
-    ∙ (map-append g (filter f (placed_from 0 (take n vs))) (filter f ((n, get_or vs n d) ∷ [])) ∙ ap (λ rs. edges_up_to c vs u n ++ rs) one))
+-- one taker more
+edges-next : (ts : Taken) (place node n : ℕ) (d : Option (List ℕ)) → n < length ts → (t : Bool) → has (or_nothing (get_or ts n d)) node ≡ t
+    → edges_up_to ts place node (n + 1) ≡ edges_up_to ts place node n ++ cond t ((place, n) ∷ []) []
+edges-next ts place node n d h t e =
+    let f : ℕ × Option (List ℕ) → Bool = λ v. has (or_nothing v.1) node in
+    let g : ℕ × Option (List ℕ) → ℕ × ℕ = λ v. (place, v.0) in
+    let one : map g (filter f ((n, get_or ts n d) ∷ [])) ≡ cond t ((place, n) ∷ []) [] = last t e in
+    ap (λ rs. map g (filter f rs)) (placed-more ts n d h)
+    ∙ (ap (map g) (filter-append f (placed_from 0 (take n ts)) ((n, get_or ts n d) ∷ []))
+    ∙ (map-append g (filter f (placed_from 0 (take n ts))) (filter f ((n, get_or ts n d) ∷ [])) ∙ ap (λ rs. edges_up_to ts place node n ++ rs) one))
   where
-    last : (s : Bool) → feeds c u.1 (get_or vs n d) ≡ s → map {B = ℕ × ℕ} (λ (v : ℕ × Vertex). (u.0, v.0))
-        (filter (λ (v : ℕ × Vertex). feeds c u.1 v.1) ((n, get_or vs n d) ∷ [])) ≡ cond s ((u.0, n) ∷ []) []
+    last : (s : Bool) → has (or_nothing (get_or ts n d)) node ≡ s → map {B = ℕ × ℕ} (λ (v : ℕ × Option (List ℕ)). (place, v.0))
+        (filter (λ (v : ℕ × Option (List ℕ)). has (or_nothing v.1) node) ((n, get_or ts n d) ∷ [])) ≡ cond s ((place, n) ∷ []) []
     last true p = rw p refl
     last false p = rw p refl
 
--- a vertex that takes the value adds an edge
-pub edges-more : (c : Code) (vs : List Vertex) (u : ℕ × Vertex) (n : ℕ) (d : Vertex) → n < length vs → feeds c u.1 (get_or vs n d) ≡ true
-    → edges_up_to c vs u (n + 1) ≡ edges_up_to c vs u n ++ (u.0, n) ∷ []
-edges-more c vs u n d h e = edges-next c vs u n d h true e
+-- a step at a vertex that takes the value
+pub step-edge : (ts : Taken) (place node n : ℕ) (d : Option (List ℕ)) (olds es fs : Edges) → n < length ts → has (or_nothing (get_or ts n d)) node ≡ true
+    → es ≡ olds ++ edges_up_to ts place node n → fs ≡ es ++ (place, n) ∷ [] → fs ≡ olds ++ edges_up_to ts place node (n + 1)
+step-edge ts place node n d olds es fs h e before after =
+    after ∙ (ap (λ l. l ++ (place, n) ∷ []) before ∙ (append_assoc olds (edges_up_to ts place node n) ((place, n) ∷ []) ∙ ap (λ l. olds ++ l)
+    (sym (edges-next ts place node n d h true e))))
 
--- another adds none
-pub edges-same : (c : Code) (vs : List Vertex) (u : ℕ × Vertex) (n : ℕ) (d : Vertex) → n < length vs → feeds c u.1 (get_or vs n d) ≡ false
-    → edges_up_to c vs u (n + 1) ≡ edges_up_to c vs u n
-edges-same c vs u n d h e = edges-next c vs u n d h false e ∙ append-nil (edges_up_to c vs u n)
+-- a step at another vertex
+pub step-none : (ts : Taken) (place node n : ℕ) (d : Option (List ℕ)) (olds es : Edges) → n < length ts → has (or_nothing (get_or ts n d)) node ≡ false
+    → es ≡ olds ++ edges_up_to ts place node n → es ≡ olds ++ edges_up_to ts place node (n + 1)
+step-none ts place node n d olds es h e before =
+    before ∙ ap (λ l. olds ++ l) (sym (edges-next ts place node n d h false e ∙ append-nil (edges_up_to ts place node n)))
+
+-- ---- what is kept for each vertex
+
+-- one vertex more
+pub same-push : (c : Code) (vs : List Vertex) (ts : Taken) (v : Vertex) (t : Option (List ℕ)) → TakeTheSame c vs ts
+    → ((x : ℕ) → has (or_nothing t) x ≡ has (taken_by c v) x) → TakeTheSame c (vs ++ v ∷ []) (ts ++ t ∷ [])
+same-push c [] [] v t s h = (h, tt)
+same-push c [] (u ∷ ts) v t s h = absurd s
+same-push c (w ∷ vs) [] v t s h = absurd s
+same-push c (w ∷ vs) (u ∷ ts) v t s h = (s.0, same-push c vs ts v t s.1 h)
+
+-- a step at a vertex
+pub step-taken : (c : Code) (vs : List Vertex) (n : ℕ) (d : Vertex) (ts us : Taken) (t : Option (List ℕ)) → n < length vs → TakeTheSame c (take n vs) ts
+    → us ≡ ts ++ t ∷ [] → ((x : ℕ) → has (or_nothing t) x ≡ has (taken_by c (get_or vs n d)) x) → TakeTheSame c (take (n + 1) vs) us
+step-taken c vs n d ts us t h before after same =
+    subst (λ ws. TakeTheSame c ws us) (sym (take_more vs n d h))
+    (subst (λ ws. TakeTheSame c (take n vs ++ get_or vs n d ∷ []) ws) (sym after) (same-push c (take n vs) ts (get_or vs n d) t before same))
+
+-- there is an entry for each
+pub same-length : (c : Code) (vs : List Vertex) (ts : Taken) → TakeTheSame c vs ts → length ts ≡ length vs
+same-length c [] [] s = refl
+same-length c [] (u ∷ ts) s = absurd s
+same-length c (w ∷ vs) [] s = absurd s
+same-length c (w ∷ vs) (u ∷ ts) s = ap suc (same-length c vs ts s.1)
+
+-- the edges from a vertex that is no ask run to those for which its node is kept
+pub takers-edges : (c : Code) (vs : List Vertex) (ts : Taken) (place : ℕ) (u : Vertex) → TakeTheSame c vs ts → is_ask u.half ≡ false
+    → edges_to_takers ts place u.node ≡ edges_from c (placed_from 0 vs) (place, u)
+takers-edges c vs ts place u s giver = go vs ts 0 s
+  where
+    go : (vs : List Vertex) (ts : Taken) (n : ℕ) → TakeTheSame c vs ts
+        → map {B = ℕ × ℕ} (λ (v : ℕ × Option (List ℕ)). (place, v.0)) (filter (λ (v : ℕ × Option (List ℕ)). has (or_nothing v.1) u.node) (placed_from n ts))
+        ≡ edges_from c (placed_from n vs) (place, u)
+    go [] [] n s = refl
+    go [] (t ∷ ts) n s = absurd s
+    go (v ∷ vs) [] n s = absurd s
+    go (v ∷ vs) (t ∷ ts) n s = one (has (taken_by c v) u.node) refl (go vs ts (n + 1) s.1)
+      where
+        one : (b : Bool) → has (taken_by c v) u.node ≡ b
+            → map {B = ℕ × ℕ} (λ (v : ℕ × Option (List ℕ)). (place, v.0)) (filter (λ (v : ℕ × Option (List ℕ)). has (or_nothing v.1) u.node) (placed_from (n + 1) ts))
+            ≡ edges_from c (placed_from (n + 1) vs) (place, u)
+            → map {B = ℕ × ℕ} (λ (v : ℕ × Option (List ℕ)). (place, v.0)) (filter (λ (v : ℕ × Option (List ℕ)). has (or_nothing v.1) u.node) (placed_from n (t ∷ ts)))
+            ≡ edges_from c (placed_from n (v ∷ vs)) (place, u)
+        one true p i = rw (s.0 u.node ∙ p, feeds, giver, p) (ap (λ es. (place, n) ∷ es) i)
+        one false p i = rw (s.0 u.node ∙ p, feeds, giver, p) i
+
+-- no edges run from an ask
+pub ask-edges : (c : Code) (vs : List (ℕ × Vertex)) (u : ℕ × Vertex) → is_ask u.1.half ≡ true → edges_from c vs u ≡ []
+ask-edges c [] u asks = refl
+ask-edges c (v ∷ vs) u asks = rw (feeds, asks) (ask-edges c vs u asks)
 
 -- the edges from the first n vertices
 abbrev pub edges_of_first : Code → List Vertex → ℕ → Edges
@@ -115,19 +173,13 @@ first-more c vs n d h =
     ∙ (flat_map-append (edges_from c (placed_from 0 vs)) (placed_from 0 (take n vs)) ((n, get_or vs n d) ∷ [])
     ∙ ap (λ es. edges_of_first c vs n ++ es) (append-nil (edges_from c (placed_from 0 vs) (n, get_or vs n d))))
 
--- a step at a vertex that takes the value
-pub step-edge : (c : Code) (vs : List Vertex) (u : ℕ × Vertex) (n : ℕ) (d : Vertex) (olds es fs : Edges) → n < length vs → feeds c u.1 (get_or vs n d) ≡ true
-    → es ≡ olds ++ edges_up_to c vs u n → fs ≡ es ++ (u.0, n) ∷ [] → fs ≡ olds ++ edges_up_to c vs u (n + 1)
-step-edge c vs u n d olds es fs h e before after =
-    after ∙ (ap (λ l. l ++ (u.0, n) ∷ []) before ∙ (append_assoc olds (edges_up_to c vs u n) ((u.0, n) ∷ []) ∙ ap (λ l. olds ++ l)
-    (sym (edges-more c vs u n d h e))))
-
--- a step at another vertex
-pub step-none : (c : Code) (vs : List Vertex) (u : ℕ × Vertex) (n : ℕ) (d : Vertex) (olds es : Edges) → n < length vs → feeds c u.1 (get_or vs n d) ≡ false
-    → es ≡ olds ++ edges_up_to c vs u n → es ≡ olds ++ edges_up_to c vs u (n + 1)
-step-none c vs u n d olds es h e before = before ∙ ap (λ l. olds ++ l) (sym (edges-same c vs u n d h e))
-
 -- a step from one vertex to the next
 pub step-first : (c : Code) (vs : List Vertex) (n : ℕ) (d : Vertex) (es fs : Edges) → n < length vs → es ≡ edges_of_first c vs n
     → fs ≡ es ++ edges_from c (placed_from 0 vs) (n, get_or vs n d) → fs ≡ edges_of_first c vs (n + 1)
 step-first c vs n d es fs h before after = after ∙ (ap (λ l. l ++ edges_from c (placed_from 0 vs) (n, get_or vs n d)) before ∙ sym (first-more c vs n d h))
+
+-- a step at an ask
+pub step-ask : (c : Code) (vs : List Vertex) (n : ℕ) (d : Vertex) (es : Edges) → n < length vs → is_ask (get_or vs n d).half ≡ true → es ≡ edges_of_first c vs n
+    → es ≡ edges_of_first c vs (n + 1)
+step-ask c vs n d es h asks before =
+    step-first c vs n d es es h before (sym (ap (λ fs. es ++ fs) (ask-edges c (placed_from 0 vs) (n, get_or vs n d) asks) ∙ append-nil es))

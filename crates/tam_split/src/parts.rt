@@ -37,9 +37,8 @@ impl Parts {
         let mut places = Vec::new(alloc);
         let mut ends = Vec::new(alloc);
         for place in 0..n {
-            if places.push(place).is_err() || ends.push(place + 1).is_err() {
-                return Err(NoMemory);
-            }
+            places.push(place)?;
+            ends.push(place + 1)?;
         }
         Ok(Parts { places, ends })
     }

@@ -6,7 +6,7 @@ use std::test::Fail;
 use tam_graph::{Accepted, Code, Graph, Kind, Name, Node};
 
 fn node(name: Option<Name>, depth: u8, kind: Kind) -> Node
-    ensures { result ≡ record { name = name; depth = depth; block = 0; kind = kind } }
+    ensures value { result ≡ record { name = name; depth = depth; block = 0; kind = kind } }
 {
     Node {
         name,

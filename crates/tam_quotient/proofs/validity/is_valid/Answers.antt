@@ -4,7 +4,7 @@ use Rattle.tam_word.proofs.AllOf.{all_of-fails}
 use Rattle.tam_word.proofs.Members.{has-below}
 use Rattle.tam_split.proofs.Classes.{partition-parts}
 use Rattle.tam_quotient.specs.Quotients.{closes_cycle, keeps_outlet}
-use Rattle.tam_quotient.proofs.Tabling.{all-more, any-at, none-at}
+use Rattle.tam_quotient.proofs.Tabling.{below-more, all-more, any-at, none-at}
 use Rattle.tam_quotient.proofs.Deciding.{closes-not_valid, not_kept-not_valid, tests-valid}
 use Rattle.tam_quotient.proofs.validity.is_valid.Goals as goal
 
@@ -31,7 +31,7 @@ pub loop-place-preserved : goal.loop-place-preserved
 loop-place-preserved c =
     let test : ℕ → Bool = keeps_outlet c.args.b.now c.args.p.now in
     let kept : test c.loop-place.place ≡ true = sym c.keeps.ensures.value ∙ c.if-not-keeps.false in
-    all-more test c.loop-place.place ∙ rw (c.loop-place.invariant, kept) refl
+    ap (all_of test) (below-more c.loop-place.place) ∙ (all-more test (below c.loop-place.place) c.loop-place.place ∙ rw (c.loop-place.invariant, kept) refl)
 
 pub returns : goal.returns
 returns c =

@@ -1,4 +1,4 @@
-use Rattle.std.proofs.Common.{◌≡◌, ◌==◌, ◌∙◌, sym, ap, ap₂, true, not, is_ok, List, ℕ, [], ◌∷◌, ◌++◌}
+use Rattle.std.proofs.Common.{◌≡◌, ◌==◌, ◌∙◌, sym, ap, ap₂, List, ℕ, [], ◌∷◌, ◌++◌}
 use Rattle.tam_sets.specs.Sets.{places_where, with_place}
 use Rattle.tam_reach.proofs.Spread.{map-more}
 use Rattle.tam_reach.proofs.reach.each_alone.Goals as goal
@@ -6,8 +6,7 @@ use Rattle.tam_reach.proofs.reach.each_alone.Goals as goal
 pub loop-place-preserved : goal.loop-place-preserved
 loop-place-preserved c =
     let place = c.loop-place.place in
-    let pushed : is_ok c.push.result ≡ true = c.is_err.ensures.negation ∙ ap not c.if-is_err.false in
-    let more = rw pushed at c.push.ensures.items in
+    let more = c.in_ok-push.ensures.items in
     let alone : c.insert.new.self ≡ places_where (λ x. x == place) = c.insert.ensures.value ∙ ap
     (λ (xs : List ℕ). with_place place xs) c.empty-alone.ensures.value in
     more

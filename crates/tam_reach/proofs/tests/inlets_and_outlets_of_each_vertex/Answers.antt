@@ -13,13 +13,13 @@ of-accepted-requires g c =
         c.of-7.ensures.value,
         c.in_ok-nodes.ensures.items,
         c.in_ok-owners.ensures.items,
-        c.node.ensures,
-        c.node-2.ensures,
-        c.node-3.ensures,
-        c.node-4.ensures,
-        c.node-5.ensures,
-        c.node-6.ensures,
-        c.node-7.ensures,
+        c.node.ensures.value,
+        c.node-2.ensures.value,
+        c.node-3.ensures.value,
+        c.node-4.ensures.value,
+        c.node-5.ensures.value,
+        c.node-6.ensures.value,
+        c.node-7.ensures.value,
       )
           (example-accepted c.expect-main.result c.expect-a.result c.expect-b.result c.expect-one.result c.expect-c.result c.expect-d.result named);
     }

@@ -11,7 +11,7 @@ pub edges_among-requires : goal.edges_among-requires
 edges_among-requires c =
     let g = c.args.g.now in
     let code : c.code-code.result.now ≡ code_of g c.args.code = c.code-code.ensures.value ∙ ap (λ (h : Graph). code_of h c.args.code) c.graph.ensures.value in
-    let vertices : c.in_ok-vertices.vertices.items ≡ vertices_in (code_of g c.args.code) c.args.block = c.in_ok-vertices.ensures ∙ ap
+    let vertices : c.in_ok-vertices.vertices.items ≡ vertices_in (code_of g c.args.code) c.args.block = c.in_ok-vertices.ensures.value ∙ ap
     (λ (k : Code). vertices_in k c.args.block) code in
     let few : length (vertices_in (code_of g c.args.code) c.args.block) ≤ 512 =
     few-vertices g c.graph.ensures.accepted c.args.code c.args.block c.requires.in_range.0 c.requires.in_range.1 in
@@ -21,7 +21,7 @@ pub invariant_of-result : goal.invariant_of-result
 invariant_of-result c =
     let g = c.args.g.now in
     let code : c.code-code.result.now ≡ code_of g c.args.code = c.code-code.ensures.value ∙ ap (λ (h : Graph). code_of h c.args.code) c.graph.ensures.value in
-    let vertices : c.in_ok-vertices.vertices.items ≡ vertices_in (code_of g c.args.code) c.args.block = c.in_ok-vertices.ensures ∙ ap
+    let vertices : c.in_ok-vertices.vertices.items ≡ vertices_in (code_of g c.args.code) c.args.block = c.in_ok-vertices.ensures.value ∙ ap
     (λ (k : Code). vertices_in k c.args.block) code in
     let edges : c.in_ok-edges.edges.items ≡ edges_among (code_of g c.args.code) (vertices_in (code_of g c.args.code) c.args.block) =
     c.in_ok-edges.ensures.value ∙ ap₂ (λ (k : Code) (vs : List Vertex). edges_among k vs) code (c.deref.ensures.value ∙ vertices) in

@@ -12,7 +12,7 @@ loop-node-preserved c =
     elim c.if-line-block.branch [
       | then-line-block+in_ok-push_vertices w ↦ rw w.vertices-is
           (step-more code c.args.block c.loop-node.node c.loop-node.vertices.items w.push_vertices.new.vertices.items c.line-item.result there
-          w.if-line-block.true c.loop-node.invariant w.in_ok-push_vertices.ensures)
+          w.if-line-block.true c.loop-node.invariant w.in_ok-push_vertices.ensures.ok)
       | else-line-block w ↦ rw w.vertices-is
           (step-same code c.args.block c.loop-node.node c.loop-node.vertices.items c.line-item.result there w.if-line-block.false c.loop-node.invariant)
     ]

@@ -1,14 +1,12 @@
-use Rattle.std.proofs.Common.{◌≡◌, ◌≤◌, ◌+◌, ◌∙◌, sym, ap, arith, true, not, is_ok, [], ◌∷◌, ◌++◌}
+use Rattle.std.proofs.Common.{◌≡◌, ◌≤◌, ◌+◌, ◌∙◌, sym, ap, arith, [], ◌∷◌, ◌++◌}
 use Rattle.tam_split.specs.Partitions.{single}
 use Rattle.tam_split.proofs.SingleClasses.{places-more, ends-more, single-flat, single-back}
 use Rattle.tam_split.proofs.parts.Parts.single.Goals as goal
 
 pub loop-place-preserved : goal.loop-place-preserved
 loop-place-preserved c =
-    let first : is_ok c.push.result ≡ true = c.is_err.ensures.negation ∙ ap not c.if-is_err.false in
-    let second : is_ok c.push-else-is_err.result ≡ true = c.is_err-else-is_err.ensures.negation ∙ ap not c.if-is_err-2.false in
-    let place = rw first at c.push.ensures.items in
-    let end = rw second at c.push-else-is_err.ensures.items in record {
+    let place = c.in_ok-push.ensures.items in
+    let end = c.in_ok-push-2.ensures.items in record {
       places = place ∙ (ap (λ xs. xs ++ c.loop-place.place ∷ []) c.loop-place.invariant.places ∙ sym (places-more c.loop-place.place));
       ends = end ∙ (ap (λ xs. xs ++ (c.loop-place.place + 1) ∷ []) c.loop-place.invariant.ends ∙ sym (ends-more c.loop-place.place));
     }

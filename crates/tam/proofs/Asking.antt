@@ -1,5 +1,5 @@
 -- What words ask for is one job with one order list and one text.
-use Rattle.std.proofs.Common.{◌≡◌, ℕ, ◌≤◌, ◌<◌, ◌⊎◌, inl, inr, ⊎_elim, Bool, true, false, List, [], length, refl, sym, ap, subst, ◌∙◌, arith}
+use Rattle.std.proofs.Common.{◌≡◌, ℕ, ◌≤◌, ◌⊎◌, inl, inr, List, length, refl, sym, ap, subst, ◌∙◌, arith}
 use Rattle.std.specs.Prelude.{Option, Some, None, Result, Ok, Err}
 use Rattle.tam_msgs.specs.declared.item.Item.{Item}
 use Rattle.tam_msgs.specs.Orders.{order_of}
@@ -11,8 +11,8 @@ use Rattle.tam_input.specs.declared.ending.Ending.{Ending}
 use Rattle.tam_input.specs.declared.ending.Ending.TheVariants.{ReadFault}
 use Rattle.tam_input.specs.Told.{Told, Contents}
 use Rattle.tam_input.specs.Refusing.{IsOrder, from_words, from_file, Refuses, usage, order_failed, long_order, no_order, text_failed, too_long, wanted}
-use Rattle.tam_input.specs.Refusing.{text_file, text_of, bytes_of, most_bytes, most_order_bytes, refusal_ending, refusal_line, read_fault_line, no_memory_line}
-use Rattle.tam_input.specs.Inputs.{Request, request_of, IsInput, Names}
+use Rattle.tam_input.specs.Refusing.{text_file, text_of, bytes_of, most_bytes, most_order_bytes, refusal_ending, refusal_line, read_fault_line}
+use Rattle.tam_input.specs.Inputs.{Request, request_of, Names}
 use Rattle.tam.specs.Answers.{Answer, AnswerTo, refused, answered, wanted as out}
 use Rattle.tam.specs.Headline.{AsksText, ReadFailed}
 

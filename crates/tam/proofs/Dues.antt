@@ -1,5 +1,5 @@
 -- What is answered to an input that isn't run is what is due to it.
-use Rattle.std.proofs.Common.{◌≡◌, ℕ, ◌⊎◌, inl, inr, Bool, true, false, List, [], ◌∷◌, take, refl, sym, ap, subst, ◌∙◌, true≢false}
+use Rattle.std.proofs.Common.{◌≡◌, ℕ, ◌⊎◌, inl, inr, true, false, List, [], ◌∷◌, take, refl, sym, ap, subst, ◌∙◌, true≢false}
 use Rattle.std.specs.Prelude.{Option, Some, None}
 use Rattle.tam_graph.specs.declared.place.Place.{Place}
 use Rattle.tam_graph.specs.declared.check_cause.CheckCause.{CheckCause}
@@ -9,7 +9,7 @@ use Rattle.tam_read.specs.Placed.{line_at, lines_in}
 use Rattle.tam_check.specs.FirstFault.{first_fault as first_refused}
 use Rattle.tam_words.specs.declared.mode.Mode.{Mode}
 use Rattle.tam_words.specs.declared.mode.Mode.TheVariants as mode
-use Rattle.tam_words.specs.Names.{runs}
+use Rattle.tam_words.specs.Names.{runs, makes}
 use Rattle.tam_input.specs.declared.ending.Ending.{Ending}
 use Rattle.tam_input.specs.declared.ending.Ending.TheVariants.{NoMemory}
 use Rattle.tam_input.specs.Inputs.{Request}
@@ -20,7 +20,7 @@ use Rattle.rv_asm.specs.Faults.{asm_faults}
 use Rattle.rv_asm.specs.Reading.{AsmReads}
 use Rattle.rv_asm.proofs.TextsRead.{one_image, no_fault_where_reads}
 use Rattle.tam.specs.AnswerLines.{refused_line, read_cause_name, check_cause_name, asm_cause_name}
-use Rattle.tam.specs.Answers.{AnswerTo, not_graph, not_accepted, listed, wrong_count, ran, ran_out, not_assembled, assembled, wanted, listing, reads_graph}
+use Rattle.tam.specs.Answers.{AnswerTo, not_graph, not_accepted, listed, wrong_count, ran, made, not_assembled, assembled, wanted, listing, reads_graph}
 use Rattle.tam.specs.Listed.{IsDue}
 use Rattle.tam.specs.Listed as due
 use Rattle.tam.proofs.Telling.{reads-once, no-fault, not-refused}
@@ -28,6 +28,10 @@ use Rattle.tam.proofs.Telling.{reads-once, no-fault, not-refused}
 -- a mode that makes no run isn't that of runs
 not-run : (m : Mode) → runs m ≡ false → m ≡ mode.Graph → ⊥
 not-run m none e = true≢false (sym (ap runs e) ∙ none)
+
+-- and one that makes no input isn't that of large inputs
+not-made : (m : Mode) → makes m ≡ false → m ≡ mode.Make → ⊥
+not-made m none e = true≢false (sym (ap makes e) ∙ none)
 
 -- a mode that reads a graph isn't that of assembly texts
 no-graph : (m : Mode) → reads_graph m ≡ true → m ≡ mode.Assemble → ⊥
@@ -75,15 +79,15 @@ no-asm-fault bytes image n c r e = nothing (ap (take 1) (sym (no_fault_where_rea
     nothing : ◌≡◌ {A = List (ℕ × AsmCause)} [] ((n, c) ∷ []) → ⊥
     nothing e = cc
 
-module _ (ask : Request) (bytes : List ℕ) (no-run : runs ask.mode ≡ false) where
+module _ (ask : Request) (bytes : List ℕ) (no-run : runs ask.mode ≡ false) (read : makes ask.mode ≡ false) where
   -- what is answered is due, or memory was wanted
   pub answer-due : (end : Ending) (text : List ℕ) → AnswerTo ask bytes end text → IsDue ask bytes end text ⊎ (end ≡ NoMemory)
   answer-due end text (not_graph m e) = inl (due.not_graph m e)
   answer-due end text (not_accepted m r e) = inl (due.not_accepted m r e)
   answer-due end text (listed s e) = inl (due.listed s e)
   answer-due end text (wrong_count m s d) = absurd (not-run ask.mode no-run m)
-  answer-due end text (ran a) = absurd (not-run ask.mode no-run a.mode)
-  answer-due end text (ran_out front rest a is) = absurd (not-run ask.mode no-run a.mode)
+  answer-due end text (ran a says) = absurd (not-run ask.mode no-run a.mode)
+  answer-due end text (made m s says) = absurd (not-made ask.mode read m)
   answer-due end text (not_assembled m e) = inl (due.not_assembled m e)
   answer-due end text (assembled m r) = inl (due.assembled m r)
   answer-due end text wanted = inr refl

@@ -1,7 +1,9 @@
 -- What a call leaves of the files.
-use Rattle.std.proofs.Common.{◌≡◌, ◌≢◌, ◌⊎◌, inl, inr, ⊎_elim, ℕ, Bool, true, false, List, refl, sym, ◌∙◌, ap, subst, true≢false}
-use Rattle.std.specs.Prelude.{Option, Result, Ok, Err}
+use Rattle.std.proofs.Common.{◌≡◌, ◌≢◌, ◌⊎◌, inl, inr, ⊎_elim, ℕ, false, List, refl, sym, ◌∙◌, ap, true≢false}
+use Rattle.std.specs.Prelude.{Option, Ok, Err}
 use Rattle.tam_edge.specs.Whole.{AppendsFront}
+use Rattle.tam_make.specs.declared.shape.Shape.{Shape}
+use Rattle.tam_msgs.specs.Runs.{Report}
 use Rattle.tam_words.specs.Jobs.{Asked}
 use Rattle.tam_input.specs.declared.ending.Ending.{Ending}
 use Rattle.tam_input.specs.declared.ending.Ending.TheVariants.{ReadFault, WriteFault}
@@ -10,10 +12,29 @@ use Rattle.tam_input.specs.declared.refusal.Refusal.TheVariants as refusal
 use Rattle.tam_input.specs.Told.{Told}
 use Rattle.tam_input.specs.Refusing.{refusal_ending, refusal_line, read_fault_line}
 use Rattle.tam_input.specs.Inputs.{Request, KeepsNamed, IsFault, ReadsOut, Names}
-use Rattle.tam.specs.Answers.{AnswerTo, not_graph, not_accepted, listed, wrong_count, ran, ran_out, not_assembled, assembled, wanted}
+use Rattle.tam.specs.Answers.{AnswerTo, not_graph, not_accepted, listed, wrong_count, ran, made, not_assembled, assembled, wanted}
+use Rattle.tam.specs.SaidRuns.{SaysRun, whole_run, run_out}
+use Rattle.tam.specs.MadeRuns.{levels, made_report, SaysLines, all_lines, first_lines, SaysMade, of_graph, no_graph}
 use Rattle.tam.specs.Headline.{IsDone, IsSaid, KeepsFiles, has_answered}
 use Rattle.tam.proofs.Endings.{broke-or}
 use Rattle.tam.proofs.Running.{not-unread}
+use Rattle.tam.proofs.SaidLines.{not-of-levels}
+
+-- what is said of a run isn't a read fault
+run-unread : (r : Report) (end : Ending) (text : List ℕ) → SaysRun r end text → end ≢ ReadFault
+run-unread r end text whole_run z = absurd (not-unread _ _ z)
+run-unread r end text (run_out front rest is) z = absurd (cc)
+
+-- nor is what is said of lines under another ending
+lines-unread : (lines : List (List ℕ)) (meant end : Ending) (text : List ℕ) → meant ≢ ReadFault → SaysLines lines meant end text → end ≢ ReadFault
+lines-unread lines meant end text none all_lines z = absurd (none z)
+lines-unread lines meant end text none (first_lines front rest is) z = absurd (cc)
+
+-- nor of a large input
+made-unread : (shape : Shape) (n : ℕ) (end : Ending) (text : List ℕ) → SaysMade shape n end text → end ≢ ReadFault
+made-unread shape n end text (of_graph {g = g} reads accepted says) =
+    lines-unread _ _ end text (not-of-levels ReadFault (λ e. absurd (cc)) (made_report shape n g) (λ level. not-unread _ _) levels) says
+made-unread shape n end text no_graph = λ z. absurd (cc)
 
 -- an answer isn't a read fault
 no-fault : (ask : Request) (bytes : List ℕ) (end : Ending) (text : List ℕ) → AnswerTo ask bytes end text → end ≢ ReadFault
@@ -21,8 +42,8 @@ no-fault ask bytes end text (not_graph m e) z = absurd (cc)
 no-fault ask bytes end text (not_accepted m r e) z = absurd (cc)
 no-fault ask bytes end text (listed s e) z = absurd (cc)
 no-fault ask bytes end text (wrong_count m s d) z = absurd (cc)
-no-fault ask bytes end text (ran a) z = absurd (not-unread _ _ z)
-no-fault ask bytes end text (ran_out front rest a is) z = absurd (cc)
+no-fault ask bytes end text (ran {g = g} a says) z = absurd (run-unread _ end text says z)
+no-fault ask bytes end text (made {shape = s} m is says) z = absurd (made-unread s ask.count end text says z)
 no-fault ask bytes end text (not_assembled m e) z = absurd (cc)
 no-fault ask bytes end text (assembled m r) z = absurd (cc)
 no-fault ask bytes end text wanted z = absurd (cc)

@@ -1,32 +1,34 @@
 -- Runs that are asked for are right, by the law of runs and by what was answered; other inputs are answered.
-use Rattle.std.proofs.Common.{◌≡◌, ◌≢◌, ◌⊎◌, inl, inr, ⊎_elim, ◌<◌, ◌^◌, ℕ, false, List, [], ◌++◌, refl, sym, ◌∙◌, ap, subst, slice_get}
+use Rattle.std.proofs.Common.{◌≡◌, ◌≢◌, ◌⊎◌, inl, inr, ⊎_elim, ℕ, false, List, [], refl, sym, ◌∙◌, subst, slice_get}
 use Rattle.std.specs.Prelude.{Option, Some}
-use Rattle.std.specs.List.{flat_map}
 use Rattle.std.specs.Io.KnownBytes.{Appends}
 use Rattle.tam_edge.specs.Whole.{AppendsFront}
 use Rattle.tam_graph.specs.Graphs.{Graph, AreArguments}
 use Rattle.tam_msgs.specs.Messages.{AreLimits}
-use Rattle.tam_msgs.specs.Runs.{Report, result_line, text_of}
+use Rattle.tam_msgs.specs.Runs.{Report, text_of}
 use Rattle.tam_split.specs.GraphPartitions.{Partitions}
 use Rattle.tam_flow.specs.BorneOut.{IsBorneOut}
 use Rattle.tam_run.specs.declared.level.Level.TheVariants as level
 use Rattle.tam_run.specs.RightRuns.{RunsAreBorneOut, RunsAreRight, RoomIsQuiet}
-use Rattle.tam_words.specs.Names.{runs}
+use Rattle.tam_make.specs.MadeGraphs.{MadeTextsAreAccepted}
+use Rattle.tam_words.specs.Names.{runs, makes}
 use Rattle.tam_words.specs.Jobs.{Asked, asked}
 use Rattle.tam_words.proofs.JobParts.{asked-right}
 use Rattle.tam_input.specs.declared.ending.Ending.{Ending}
 use Rattle.tam_input.specs.declared.ending.Ending.TheVariants.{ReadFault, WriteFault, NoMemory}
 use Rattle.tam_input.specs.Endings.{code_of}
 use Rattle.tam_input.specs.Told.{Told, Contents, Agrees}
-use Rattle.tam_input.specs.Refusing.{read_fault_line, no_memory_line}
+use Rattle.tam_input.specs.Refusing.{read_fault_line}
 use Rattle.tam_input.specs.Inputs.{Request}
-use Rattle.tam.specs.Answers.{Answer, AnswerTo, run_of, ending_of}
+use Rattle.tam.specs.SaidRuns.{ending_of, SaysRun, whole_run, run_out}
+use Rattle.tam.specs.Answers.{Answer, AnswerTo, run_of}
 use Rattle.tam.specs.Listed.{IsDue}
-use Rattle.tam.specs.Headline.{AsksText, AsksRun, IsDone, IsRightRun, IsAnswered, IsGiven, IsRightCall, KeepsFiles, RanOut, ReadFailed, TookReport}
+use Rattle.tam.specs.Headline.{AsksText, AsksRun, IsDone, IsAnswered, IsRightCall, KeepsFiles, RanOut, ReadFailed, TookReport}
 use Rattle.tam.proofs.Endings.{broke-or}
 use Rattle.tam.proofs.Running.{not-broken, not-unread, not-wanting}
 use Rattle.tam.proofs.Asking.{told-input}
-use Rattle.tam.proofs.Telling.{OfRun, whole, ended, told-of}
+use Rattle.tam.proofs.Telling.{told-of}
+use Rattle.tam.proofs.RightMade.{right-made}
 use Rattle.tam.proofs.Dues.{answer-due, due-once}
 
 -- a read fault isn't want of memory
@@ -59,10 +61,10 @@ module _ (words : Asked) (contents : Contents) (before now : Told) (end : Ending
     written : end ≢ WriteFault → Wrote
     written n = let s = done.said n in go s.0 (told-input words contents before now ask asks.bytes asks.input end s.0 s.1) s.2
       where
-        of-run : (e : Ending) (text : List ℕ) → OfRun ask g e text → Appends old new text
+        of-run : (e : Ending) (text : List ℕ) → SaysRun report e text → Appends old new text
             → ((e ≡ ending_of report) × Appends old new (text_of report)) ⊎ ((e ≡ NoMemory) × RanOut (Appends old new) report)
-        of-run e text whole a = inl (refl, a)
-        of-run e text (ended front rest is) a = inr (refl, (front, rest, is, a))
+        of-run e text whole_run a = inl (refl, a)
+        of-run e text (run_out front rest is) a = inr (refl, (front, rest, is, a))
 
         go : (text : List ℕ) → AnswerTo ask asks.bytes end text ⊎ ((end ≡ ReadFault) × (text ≡ read_fault_line) × ReadFailed words before now)
             → Appends old new text → Wrote
@@ -73,10 +75,10 @@ module _ (words : Asked) (contents : Contents) (before now : Told) (end : Ending
     fronts : end ≡ WriteFault → AppendsFront old new (text_of report) ⊎ (RanOut (AppendsFront old new) report ⊎ (Failed × AppendsFront old new read_fault_line))
     fronts e = let b = done.broken e in go b.0 b.1 (told-input words contents before now ask asks.bytes asks.input b.0 b.1 b.2) b.3
       where
-        of-run : (m : Ending) (text : List ℕ) → OfRun ask g m text → AppendsFront old new text
+        of-run : (m : Ending) (text : List ℕ) → SaysRun report m text → AppendsFront old new text
             → AppendsFront old new (text_of report) ⊎ (RanOut (AppendsFront old new) report ⊎ (Failed × AppendsFront old new read_fault_line))
-        of-run m text whole a = inl a
-        of-run m text (ended front rest is) a = inr (inl (front, rest, is, a))
+        of-run m text whole_run a = inl a
+        of-run m text (run_out front rest is) a = inr (inl (front, rest, is, a))
 
         go : (m : Ending) (text : List ℕ) → AnswerTo ask asks.bytes m text ⊎ ((m ≡ ReadFault) × (text ≡ read_fault_line) × ReadFailed words before now)
             → AppendsFront old new text
@@ -102,7 +104,7 @@ module _ (words : Asked) (contents : Contents) (before now : Told) (end : Ending
         by-whole e (inr (inl b)) = absurd (not-unread _ _ (sym e ∙ b.0))
         by-whole e (inr (inr c)) = absurd (not-wanting _ _ (sym e ∙ c.0))
 
-  module _ (ask : Request) (bytes : List ℕ) (asks : AsksText words contents ask bytes) (no-run : runs ask.mode ≡ false) where
+  module _ (ask : Request) (bytes : List ℕ) (asks : AsksText words contents ask bytes) (no-run : runs ask.mode ≡ false) (read : makes ask.mode ≡ false) where
     -- what was written is what is due
     written-due : end ≢ WriteFault → ((text : List ℕ) × IsDue ask bytes end text × Appends old new text) ⊎ ((end ≡ ReadFault) ⊎ (end ≡ NoMemory))
     written-due n = let s = done.said n in go s.0 (told-input words contents before now ask bytes asks end s.0 s.1) s.2
@@ -110,23 +112,23 @@ module _ (words : Asked) (contents : Contents) (before now : Told) (end : Ending
         go : (text : List ℕ) → AnswerTo ask bytes end text ⊎ ((end ≡ ReadFault) × (text ≡ read_fault_line) × ReadFailed words before now)
             → Appends old new text → ((text : List ℕ) × IsDue ask bytes end text × Appends old new text) ⊎ ((end ≡ ReadFault) ⊎ (end ≡ NoMemory))
         go text (inr f) a = inr (inl f.0)
-        go text (inl t) a = ⊎_elim (λ d. inl (text, d, a)) (λ m. inr (inr m)) (answer-due ask bytes no-run end text t)
+        go text (inl t) a = ⊎_elim (λ d. inl (text, d, a)) (λ m. inr (inr m)) (answer-due ask bytes no-run read end text t)
 
     -- so the input is answered
     input-answered : IsAnswered ask bytes end old new
     input-answered = record {
       given = λ meant text d. ⊎_elim (λ e. inr (inr (inl e))) (λ n. ⊎_elim
-          (λ w. let same = due-once ask bytes no-run end meant w.0 text w.1 d in inl (same.0, subst (Appends old new) same.1 w.2))
+          (λ w. let same = due-once ask bytes no-run read end meant w.0 text w.1 d in inl (same.0, subst (Appends old new) same.1 w.2))
           (⊎_elim (λ f. inr (inl f)) (λ m. inr (inr (inr m)))) (written-due n)) (broke-or end);
       no_other = ⊎_elim (λ e. (end, [], inr (inr (inl e)))) (λ n. ⊎_elim (λ w. (end, w.0, inl (refl, w.1)))
           (⊎_elim (λ f. (end, [], inr (inl f))) (λ m. (end, [], inr (inr (inr m))))) (written-due n)) (broke-or end);
     }
 
 -- what the call makes sure of, by what was answered and what it leaves of the files
-pub right-call : RunsAreBorneOut → RunsAreRight → RoomIsQuiet → (words : List (List ℕ)) (contents : Contents) (before now : Told) (end : Ending) (old new : Option (List ℕ))
+pub right-call : MadeTextsAreAccepted → RunsAreBorneOut → RunsAreRight → RoomIsQuiet → (words : List (List ℕ)) (contents : Contents) (before now : Told) (end : Ending) (old new : Option (List ℕ))
     (faults faults_new : ℕ) → Agrees before.left contents → IsDone (Answer (asked words) contents before now) end old new faults faults_new
     → KeepsFiles (asked words) end before now old new → IsRightCall (asked words) before now (code_of end) old new faults faults_new
-right-call borne right room words contents before now end old new faults faults_new agrees done files = record {
+right-call law borne right room words contents before now end old new faults faults_new agrees done files = record {
   contents = contents;
   agrees = agrees;
   end = end;
@@ -137,6 +139,7 @@ right-call borne right room words contents before now end old new faults faults_
     complete = let b = out g ask asks in room g b.0 ask.args ask.limits (run_of ask g) b.1;
     took = took (asked words) contents before now end old new faults faults_new done g ask asks;
   };
+  made = right-made law borne right room words contents before now end old new faults faults_new done;
   answered = input-answered (asked words) contents before now end old new faults faults_new done;
   files = files;
 }

@@ -1,42 +1,22 @@
 -- What may be answered where a run is asked for: its text, a read fault, or the lines of first results and that memory was wanted.
-use Rattle.std.proofs.Common.{◌≡◌, ◌≢◌, ℕ, ◌≤◌, ◌<◌, ◌⊎◌, inl, inr, ⊎_elim, Bool, true, false, List, [], ◌∷◌, ◌++◌, length, take, refl, sym, ap, subst, ◌∙◌, arith}
-use Rattle.std.specs.Prelude.{Option, Some, None, Result, Ok, Err, nat_lt}
-use Rattle.std.specs.List.{flat_map}
+use Rattle.std.proofs.Common.{◌≡◌, ℕ, List, [], ◌∷◌, length, take, refl, sym, ap, subst, ◌∙◌}
+use Rattle.std.specs.Prelude.{Option, Some, None}
 use Rattle.tam_graph.specs.declared.place.Place.{Place}
 use Rattle.tam_graph.specs.declared.check_cause.CheckCause.{CheckCause}
 use Rattle.tam_graph.specs.Graphs.{Graph, code_of, params_of}
 use Rattle.tam_graph.specs.Reading.{Reads}
 use Rattle.tam_graph.specs.Accepted.{IsAccepted}
 use Rattle.tam_read.specs.declared.cause.ReadCause.{ReadCause}
-use Rattle.tam_read.specs.Faults.{faults, first_fault}
+use Rattle.tam_read.specs.Faults.{first_fault}
 use Rattle.tam_read.proofs.Complete.{complete}
 use Rattle.tam_check.specs.FirstFault.{first_fault as first_refused}
-use Rattle.tam_msgs.specs.declared.item.Item.{Item}
-use Rattle.tam_msgs.specs.Orders.{order_of}
-use Rattle.tam_msgs.specs.Runs.{result_line, text_of}
 use Rattle.tam_words.specs.declared.mode.Mode.{Mode}
 use Rattle.tam_words.specs.declared.mode.Mode.TheVariants as mode
-use Rattle.tam_words.specs.Jobs.{Asked, Job, Usage, JobParts}
 use Rattle.tam_input.specs.declared.ending.Ending.{Ending}
-use Rattle.tam_input.specs.declared.ending.Ending.TheVariants.{NoMemory, Done, Refused}
-use Rattle.tam_input.specs.Refusing.{no_memory_line}
 use Rattle.tam_input.specs.Inputs.{Request}
-use Rattle.rv_inst.specs.Images.{Image}
-use Rattle.rv_asm.specs.declared.asm_error.AsmCause.{AsmCause}
-use Rattle.rv_asm.specs.Faults.{asm_faults}
-use Rattle.rv_asm.specs.Reading.{AsmReads}
-use Rattle.rv_asm.proofs.TextsRead.{one_image, no_fault_where_reads}
-use Rattle.rv_image.specs.ImageFiles.{image_bytes}
-use Rattle.tam.specs.AnswerLines.{refused_line, read_cause_name, check_cause_name, asm_cause_name}
-use Rattle.tam.specs.Answers.{AnswerTo, AsksGraph, Spells, not_graph, not_accepted, listed, wrong_count, ran, ran_out, not_assembled, assembled, wanted as out}
-use Rattle.tam.specs.Answers.{listing, reads_graph, run_of, ending_of}
-use Rattle.tam.specs.Listed.{IsDue}
-use Rattle.tam.specs.Listed as due
-
--- what may be answered of the run of a graph, behind reads that didn't fail
-pub data OfRun (ask : Request) (g : Graph) : Ending → List ℕ → Type 0 where
-  whole : OfRun ask g (ending_of (run_of ask g)) (text_of (run_of ask g))
-  ended : (front rest : List (ℕ × ℕ)) → (run_of ask g).printed ≡ front ++ rest → OfRun ask g NoMemory (flat_map result_line front ++ no_memory_line)
+use Rattle.tam.specs.Answers.{AnswerTo, AsksGraph, Spells, not_graph, not_accepted, listed, wrong_count, ran, made, not_assembled, assembled, wanted as out}
+use Rattle.tam.specs.Answers.{listing, run_of}
+use Rattle.tam.specs.SaidRuns.{SaysRun, run_out}
 
 -- bytes read as one graph
 pub reads-once : (bytes : List ℕ) (g h : Graph) → Reads bytes g → Reads bytes h → h ≡ g
@@ -67,20 +47,24 @@ no-listing m g text e is = nothing (ap (λ n. listing n g) (sym e) ∙ is)
 no-assembly : (m : Mode) → m ≡ mode.Graph → m ≡ mode.Assemble → ⊥
 no-assembly m e f = cc
 
+-- nor is anything made
+not-made : (m : Mode) → m ≡ mode.Graph → m ≡ mode.Make → ⊥
+not-made m e f = cc
+
 module _ (ask : Request) (bytes : List ℕ) (g : Graph) (asks : AsksGraph ask bytes g) where
   same-graph : (h : Graph) → Spells bytes h → h ≡ g
   same-graph h s = reads-once bytes g h asks.spelled.reads s.reads
 
   -- of the bytes
-  pub told-of : (end : Ending) (text : List ℕ) → AnswerTo ask bytes end text → OfRun ask g end text
+  pub told-of : (end : Ending) (text : List ℕ) → AnswerTo ask bytes end text → SaysRun (run_of ask g) end text
   told-of end text (not_graph {n = n} {cause = c} m e) = absurd (no-fault bytes g n c asks.spelled.reads e)
   told-of end text (not_accepted {g = h} {place = p} {cause = c} m r e) =
       absurd (not-refused g p c asks.spelled.accepted (subst (λ k. first_refused k ≡ Some (p, c)) (reads-once bytes g h asks.spelled.reads r) e))
   told-of end text (listed {g = h} {text = t} s e) = absurd (no-listing ask.mode h t asks.mode e)
   told-of end text (wrong_count {g = h} m s differ) =
       absurd (differ (subst (λ k. length ask.args ≡ params_of (code_of k k.main)) (sym (same-graph h s)) asks.one_each))
-  told-of end text (ran {g = h} a) = subst (λ k. OfRun ask g (ending_of (run_of ask k)) (text_of (run_of ask k))) (sym (same-graph h a.spelled)) whole
-  told-of end text (ran_out {g = h} front rest a is) = ended front rest (subst (λ k. (run_of ask k).printed ≡ front ++ rest) (same-graph h a.spelled) is)
+  told-of end text (ran {g = h} a says) = subst (λ k. SaysRun (run_of ask k) end text) (same-graph h a.spelled) says
+  told-of end text (made m s says) = absurd (not-made ask.mode asks.mode m)
   told-of end text (not_assembled m e) = absurd (no-assembly ask.mode asks.mode m)
   told-of end text (assembled m r) = absurd (no-assembly ask.mode asks.mode m)
-  told-of end text out = ended [] (run_of ask g).printed refl
+  told-of end text out = run_out [] (run_of ask g).printed refl

@@ -1,6 +1,6 @@
 -- What the program writes, and with which status, by what the words ask for and by what is left of the files.
 -- The rule in words: docs/FORMATS.md, "Command line".
-use Rattle.std.specs.Prelude.{ℕ, ◌≡◌, ◌≢◌, Bool, true, false, List, [], ◌∷◌, ◌++◌, flat_map, length, take, Option, Some, None}
+use Rattle.std.specs.Prelude.{ℕ, ◌≡◌, ◌≢◌, Bool, true, false, List, [], ◌∷◌, length, take, Option, Some, None}
 use Rattle.tam_graph.specs.declared.place.Place.{Place}
 use Rattle.tam_graph.specs.declared.check_cause.CheckCause.{CheckCause}
 use Rattle.tam_graph.specs.Graphs.{Graph, code_of, params_of}
@@ -11,9 +11,8 @@ use Rattle.tam_read.specs.declared.cause.ReadCause.{ReadCause}
 use Rattle.tam_read.specs.Faults.{first_fault}
 use Rattle.tam_read.specs.Placed.{line_at, lines_in}
 use Rattle.tam_check.specs.FirstFault.{first_fault as first_refused}
-use Rattle.tam_msgs.specs.declared.item.Item.{Item}
-use Rattle.tam_msgs.specs.Runs.{End, Quiet, Double_write, Out_of_range, Frames_full, Cells_full, Budget_spent, Wild, Trap, Report, result_line, text_of}
-use Rattle.tam_msgs.specs.Runs.{missing_of}
+use Rattle.tam_make.specs.declared.shape.Shape.{Shape}
+use Rattle.tam_msgs.specs.Runs.{Report}
 use Rattle.tam_run.specs.declared.level.Level.TheVariants as level
 use Rattle.tam_run.specs.Levels.{told_at}
 use Rattle.tam_words.specs.declared.mode.Mode.{Mode}
@@ -28,11 +27,15 @@ use Rattle.tam_input.specs.Told.{Told, Contents}
 use Rattle.tam_input.specs.Refusing.{Refuses, usage_line, no_memory_line, refusal_ending, refusal_line}
 use Rattle.tam_input.specs.Inputs.{Request, IsInput}
 use Rattle.rv_inst.specs.Images.{Image}
+use Rattle.tl0_code.specs.CodeTexts.{program_text}
+use Rattle.tl0_keep.specs.Compiled.{compiled}
 use Rattle.rv_image.specs.ImageFiles.{image_bytes}
 use Rattle.rv_asm.specs.declared.asm_error.AsmCause.{AsmCause}
 use Rattle.rv_asm.specs.Faults.{asm_faults}
 use Rattle.rv_asm.specs.Reading.{AsmReads}
 use Rattle.tam.specs.AnswerLines.{refused_line, read_cause_name, check_cause_name, asm_cause_name}
+use Rattle.tam.specs.SaidRuns.{SaysRun}
+use Rattle.tam.specs.MadeRuns.{SaysMade}
 
 -- the mode reads a graph's text
 abbrev pub reads_graph : Mode → Bool
@@ -41,7 +44,9 @@ reads_graph mode.Check = true
 reads_graph mode.EmitDg = true
 reads_graph mode.Sets = true
 reads_graph mode.Parts = true
+reads_graph mode.EmitTl0 = true
 reads_graph mode.Assemble = false
+reads_graph mode.Make = false
 
 -- the bytes are a text of an accepted graph
 pub record Spells (bytes : List ℕ) (g : Graph) : Type 0 where
@@ -55,29 +60,15 @@ listing mode.Check g = Some (check_text g)
 listing mode.EmitDg g = Some (canonical g)
 listing mode.Sets g = Some (sets_text g)
 listing mode.Parts g = Some (parts_text g)
+listing mode.EmitTl0 g = Some (program_text (compiled g))
 listing mode.Assemble g = None
+listing mode.Make g = None
 
 -- ---- runs
 
 -- the report of the run of a graph that is asked for
 abbrev pub run_of : Request → Graph → Report
 run_of ask g = told_at level.Graph g ask.args ask.order ask.limits
-
--- how the program ends behind the end of a run; the list is of the results that are missing
-abbrev pub ending_by : End → List ℕ → Ending
-ending_by Quiet [] = ending.Done
-ending_by Quiet (k ∷ ks) = ending.ResultsMissing
-ending_by (Double_write s t) ks = ending.DoubleWrite
-ending_by (Out_of_range s i l) ks = ending.OutOfRange
-ending_by (Frames_full n) ks = ending.FramesFull
-ending_by (Cells_full u l) ks = ending.CellsFull
-ending_by (Budget_spent n) ks = ending.BudgetSpent
-ending_by (Wild what n) ks = ending.Broken
-ending_by (Trap pc cause) ks = ending.Broken
-
--- how it ends behind a run
-abbrev pub ending_of : Report → Ending
-ending_of r = ending_by r.how (missing_of r.how r.results r.printed)
 
 -- a run of the graph of the bytes is asked for, and each param of `main` has an argument
 pub record AsksGraph (ask : Request) (bytes : List ℕ) (g : Graph) : Type 0 where
@@ -101,10 +92,10 @@ pub data AnswerTo (ask : Request) (bytes : List ℕ) : Ending → List ℕ → T
   wrong_count : {g : Graph} → ask.mode ≡ mode.Graph → Spells bytes g → length ask.args ≢ params_of (code_of g g.main)
       → AnswerTo ask bytes ending.Usage (usage_line ArgsCount)
   -- or is run
-  ran : {g : Graph} → AsksGraph ask bytes g → AnswerTo ask bytes (ending_of (run_of ask g)) (text_of (run_of ask g))
-  -- until memory is wanted, behind the lines of its first results
-  ran_out : {g : Graph} (front rest : List (ℕ × ℕ)) → AsksGraph ask bytes g → (run_of ask g).printed ≡ front ++ rest
-      → AnswerTo ask bytes ending.NoMemory (flat_map result_line front ++ no_memory_line)
+  ran : {g : Graph} {end : Ending} {text : List ℕ} → AsksGraph ask bytes g → SaysRun (run_of ask g) end text → AnswerTo ask bytes end text
+  -- a large input is made, and run at each level
+  made : {shape : Shape} {end : Ending} {text : List ℕ} → ask.mode ≡ mode.Make → ask.shape ≡ Some shape → SaysMade shape ask.count end text
+      → AnswerTo ask bytes end text
   -- the bytes are no assembly text
   not_assembled : {n : ℕ} {cause : AsmCause} → ask.mode ≡ mode.Assemble → take 1 (asm_faults bytes) ≡ (n, cause) ∷ []
       → AnswerTo ask bytes ending.Refused (refused_line n (asm_cause_name cause))

@@ -7,10 +7,11 @@ use Rattle.tam_edge.specs.Faults.{CountsFault}
 use Rattle.tam_edge.specs.Whole.{AppendsFront}
 use Rattle.tam_graph.specs.Graphs.{Graph}
 use Rattle.tam_msgs.specs.declared.item.Item.{Item}
+use Rattle.tam_make.specs.declared.shape.Shape.{Shape}
 use Rattle.tam_msgs.specs.Runs.{Quiet, Report, result_line, text_of as report_text}
 use Rattle.tam_flow.specs.Headline.{IsRight}
 use Rattle.tam_run.specs.RightRuns.{HasRoom}
-use Rattle.tam_words.specs.Names.{runs}
+use Rattle.tam_words.specs.Names.{runs, makes}
 use Rattle.tam_words.specs.Jobs.{Asked, Job, JobParts, asked}
 use Rattle.tam_input.specs.declared.ending.Ending.{Ending}
 use Rattle.tam_input.specs.declared.ending.Ending.TheVariants.{Done, Refused, ReadFault, ResultsMissing, DoubleWrite, OutOfRange, FramesFull}
@@ -19,7 +20,9 @@ use Rattle.tam_input.specs.Endings.{code_of}
 use Rattle.tam_input.specs.Told.{Told, HasFailed, Contents, Agrees}
 use Rattle.tam_input.specs.Refusing.{IsOrder, text_of, most_bytes, read_fault_line, no_memory_line}
 use Rattle.tam_input.specs.Inputs.{Request, request_of, IsReadOut, Names}
-use Rattle.tam.specs.Answers.{Answer, AsksGraph, run_of, ending_of}
+use Rattle.tam.specs.SaidRuns.{ending_of}
+use Rattle.tam.specs.RightMade.{AsksMade, IsRightMade}
+use Rattle.tam.specs.Answers.{Answer, AsksGraph, run_of}
 use Rattle.tam.specs.Listed.{IsDue}
 
 -- what the words ask for
@@ -121,7 +124,8 @@ pub record IsRightRun (g : Graph) (ask : Request) (Failed : Type 0) (end : Endin
 abbrev pub IsGiven : Ending → List ℕ → Ending → Option (List ℕ) → Option (List ℕ) → Type 0
 IsGiven meant text end old new = ((end ≡ meant) × Appends old new text) ⊎ ((end ≡ ReadFault) ⊎ ((end ≡ WriteFault) ⊎ (end ≡ NoMemory)))
 
--- Of an input in a mode that makes no run: something is due, its listing where it is accepted and its first fault where it isn't, and that is given.
+-- Of an input in a mode that reads it and makes no run: something is due, its listing where it is accepted and its first fault where it isn't, and that
+-- is given.
 pub record IsAnswered (ask : Request) (bytes : List ℕ) (end : Ending) (old new : Option (List ℕ)) : Type 0 where
   pub given : (meant : Ending) (text : List ℕ) → IsDue ask bytes meant text → IsGiven meant text end old new
   pub no_other : (meant : Ending) × (text : List ℕ) × (((end ≡ meant) × IsDue ask bytes meant text) ⊎ ((end ≡ ReadFault) ⊎ ((end ≡ WriteFault) ⊎ (end ≡ NoMemory))))
@@ -129,7 +133,7 @@ pub record IsAnswered (ask : Request) (bytes : List ℕ) (end : Ending) (old new
 -- ---- the call
 
 -- What the call makes sure of: for some bytes of each file, which agree with all that is told, the answer is theirs; whatever run is asked for of
--- whatever graph they spell is right; and each other input is answered.
+-- whatever graph they spell is right; so are the runs of whatever large input is asked for; and each other input is answered.
 pub record IsRightCall (words : Asked) (before now : Told) (code : ℕ) (old new : Option (List ℕ)) (faults faults_new : ℕ) : Type 0 where
   pub contents : Contents
   pub agrees : Agrees before.left contents
@@ -137,5 +141,7 @@ pub record IsRightCall (words : Asked) (before now : Told) (code : ℕ) (old new
   pub code_is : code ≡ code_of end
   pub done : IsDone (Answer words contents before now) end old new faults faults_new
   pub run : (g : Graph) (ask : Request) → AsksRun words contents g ask → IsRightRun g ask (ReadFailed words before now) end old new
-  pub answered : (ask : Request) (bytes : List ℕ) → AsksText words contents ask bytes → runs ask.mode ≡ false → IsAnswered ask bytes end old new
+  pub made : (shape : Shape) (n : ℕ) → AsksMade words shape n → IsRightMade shape n end old new
+  pub answered : (ask : Request) (bytes : List ℕ) → AsksText words contents ask bytes → runs ask.mode ≡ false → makes ask.mode ≡ false
+      → IsAnswered ask bytes end old new
   pub files : KeepsFiles words end before now old new

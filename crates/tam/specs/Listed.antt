@@ -1,4 +1,4 @@
--- What is due to an input that isn't run: its listing where it is accepted, and else its first fault.
+-- What is due to an input that is read and isn't run: its listing where it is accepted, and else its first fault.
 -- The rule in words: docs/FORMATS.md, "Command line".
 use Rattle.std.specs.Prelude.{ℕ, ◌≡◌, true, List, [], ◌∷◌, take, Some}
 use Rattle.tam_graph.specs.declared.place.Place.{Place}

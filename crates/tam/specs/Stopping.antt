@@ -6,7 +6,7 @@ use Rattle.tam_run.specs.Ends.{end_of_stop}
 use Rattle.tam_input.specs.declared.ending.Ending.{Ending}
 use Rattle.tam_input.specs.declared.ending.Ending.TheVariants as ending
 use Rattle.tam_input.specs.Refusing.{no_memory_line}
-use Rattle.tam.specs.Answers.{ending_by}
+use Rattle.tam.specs.SaidRuns.{ending_by}
 use Rattle.tam.specs.Headline.{IsSaid}
 
 -- nothing more was written under the ending of its run; where memory was wanted, that was said

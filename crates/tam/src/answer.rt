@@ -1,5 +1,7 @@
 // What is answered to a job and the bytes of its file.
-ghost use Rattle.std.specs.Prelude.{◌≡◌, ◌≤◌, length};
+ghost use Rattle.std.specs.Prelude.{◌≡◌, ◌≤◌, ℕ, List, length};
+ghost use Rattle.tam_words.specs.declared.mode.Mode.TheVariants.{Make};
+ghost use Rattle.tam_msgs.specs.declared.item.Item.{Item};
 ghost use Rattle.tam_input.specs.Refusing.{most_bytes};
 ghost use Rattle.tam_input.specs.Inputs.{request_of};
 ghost use Rattle.tam.specs.Answers.{AnswerTo};
@@ -7,12 +9,13 @@ ghost use Rattle.tam.specs.Headline.{IsDone};
 
 use crate::assembly::answer_assembly_text;
 use crate::graph_text::answer_graph_text;
+use crate::made::answer_made;
 use std::alloc::Global;
 use tam_edge::Sink;
 use tam_input::{Ending, Input};
-use tam_words::Mode;
+use tam_words::{Job, Mode};
 
-/// Answers the bytes of a job's file.
+/// Answers the bytes of a job's file, or what it is to make.
 pub fn answer<K: Sink>(alloc: Global, input: Input, out: &mut K) -> Ending
     requires few { length input.text.items ≤ most_bytes input.job.mode }
     ensures done { IsDone (AnswerTo (request_of input.job input.order) input.text.items) result
@@ -21,8 +24,20 @@ pub fn answer<K: Sink>(alloc: Global, input: Input, out: &mut K) -> Ending
     let Input { job, order, text } = input;
     match job.mode() {
         Mode::Assemble => answer_assembly_text(alloc, &text, out),
-        Mode::Graph | Mode::Check | Mode::EmitDg | Mode::Sets | Mode::Parts => {
-            answer_graph_text(alloc, &text, &job, order, out)
-        }
+        Mode::Graph | Mode::Check | Mode::EmitDg | Mode::Sets | Mode::Parts | Mode::EmitTl0 =>
+            answer_graph_text(alloc, &text, &job, order, out),
+        Mode::Make => answer_made_job(alloc, &job, out),
+    }
+}
+
+// Makes the large input of a job, and runs it.
+fn answer_made_job<K: Sink>(alloc: Global, job: &Job, out: &mut K) -> Ending
+    requires mode { job.now.mode ≡ Make }
+    ensures done { (order : List Item) (bytes : List ℕ) → IsDone (AnswerTo (request_of job.now order) bytes) result
+        (K.taken out.old) (K.taken out.new) (K.faults out.old) (K.faults out.new) }
+{
+    match job.shape() {
+        Some(shape) => answer_made(alloc, shape, job.count(), out),
+        None => unreachable!(),
     }
 }

@@ -1,9 +1,14 @@
 // The run of an accepted graph.
 ghost use Rattle.std.specs.Prelude.{◌≡◌, ◌≢◌, ℕ, List};
+ghost use Rattle.tam_graph.specs.Graphs.{AreArguments};
+ghost use Rattle.tam_msgs.specs.Messages.{AreLimits};
+ghost use Rattle.tam_run.specs.Levels.{told_at};
+ghost use Rattle.tam_run.specs.Writing.{Writes, CountsRun};
 ghost use Rattle.tam_words.specs.declared.mode.Mode.TheVariants.{Graph};
 ghost use Rattle.tam_input.specs.declared.ending.Ending.TheVariants.{Done, ResultsMissing};
 ghost use Rattle.tam_input.specs.Inputs.{request_of};
 ghost use Rattle.tam.specs.Answers.{AnswerTo, Spells};
+ghost use Rattle.tam.specs.SaidRuns.{SaysRun};
 ghost use Rattle.tam.specs.Headline.{IsDone};
 ghost use Rattle.tam.specs.Stopping.{AnswersStop};
 
@@ -12,8 +17,8 @@ use std::alloc::Global;
 use tam_edge::Sink;
 use tam_graph::Accepted;
 use tam_input::Ending;
-use tam_msgs::{Order, Stop};
-use tam_run::{Outcome, run};
+use tam_msgs::{Limits, Order, Stop};
+use tam_run::{Level, Outcome, run};
 use tam_words::Job;
 
 /// Runs an accepted graph on the job's arguments, within its limits.
@@ -32,10 +37,48 @@ pub fn run_graph<K: Sink>(
     if args.len() != graph.params(graph.main()) as usize {
         return say(b"usage ArgsCount\n", Ending::Usage, out);
     }
-    match run(alloc, graph, args, order, job.limits(), out) {
+    run_at(alloc, Level::Graph, graph, args, order, job.limits(), out)
+}
+
+/// Runs an accepted graph at a level, and answers how the program ends.
+pub fn run_at<K: Sink>(
+    alloc: Global,
+    level: Level,
+    graph: &Accepted,
+    args: &[u32],
+    order: Order,
+    limits: Limits,
+    out: &mut K,
+) -> Ending
+    requires arguments { AreArguments graph.now args.now }
+    requires limits { AreLimits limits }
+    ensures done { IsDone (SaysRun (told_at level graph.now args.now order limits)) result
+        (K.taken out.old) (K.taken out.new) (K.faults out.old) (K.faults out.new) }
+{
+    match outcome_at(alloc, level, graph, args, order, limits, out) {
         Outcome::Quiet { missing } => quiet_ending(missing),
         Outcome::Stopped(stop) => answer_stop(stop, out),
         Outcome::WriteFault => Ending::WriteFault,
+    }
+}
+
+// The outcome of the run at a level.
+fn outcome_at<K: Sink>(
+    alloc: Global,
+    level: Level,
+    graph: &Accepted,
+    args: &[u32],
+    order: Order,
+    limits: Limits,
+    out: &mut K,
+) -> Outcome
+    requires arguments { AreArguments graph.now args.now }
+    requires limits { AreLimits limits }
+    ensures text { Writes (told_at level graph.now args.now order limits) (K.taken out.old) (K.taken out.new) result }
+    ensures counted { CountsRun (K.faults out.old) (K.faults out.new) result }
+{
+    match level {
+        Level::Graph => run(alloc, graph, args, order, limits, out),
     }
 }
 

@@ -9,6 +9,7 @@ ghost use Rattle.tam.specs.Headline.{IsDone};
 use crate::graph_run::run_graph;
 use crate::refusal::{check_cause_name, read_cause_name, refused_line};
 use crate::say::{say_made, say_no_memory};
+use crate::thread_text::thread_text;
 use std::alloc::Global;
 use tam_check::{CheckError, check};
 use tam_edge::Sink;
@@ -91,6 +92,7 @@ fn answer_accepted<K: Sink>(
         Mode::EmitDg => say_made(print(alloc, graph.graph()), Ending::Done, out),
         Mode::Sets => say_made(print_sets(alloc, graph), Ending::Done, out),
         Mode::Parts => say_made(print_parts(alloc, graph), Ending::Done, out),
-        Mode::Assemble => unreachable!(),
+        Mode::EmitTl0 => say_made(thread_text(alloc, graph), Ending::Done, out),
+        Mode::Assemble | Mode::Make => unreachable!(),
     }
 }

@@ -1,6 +1,6 @@
 //! Runs a dataflow graph: the program around the top call.
 //!
-//! Over all crates of the graph level, the readers of words and files, and the assembler.
+//! Over all crates of the graph level, the readers of words and files, the large inputs, and the assembler.
 //! Read `specs/Headline.antt` first: what the top call makes sure of. Then `src/top.rt`.
 #![tactic(auto)]
 
@@ -8,11 +8,13 @@ mod answer;
 mod assembly;
 mod graph_run;
 mod graph_text;
+mod made;
 mod refusal;
 mod say;
 mod status;
 #[cfg(test)]
 mod tests;
+mod thread_text;
 mod top;
 
 use std::env;

@@ -9,8 +9,8 @@ use tam_graph::CheckCause;
 use tam_read::{Limit, ReadCause};
 use tam_word::print_number;
 
-// Adds a number in decimal.
-fn push_number(line: &mut Vec<u8>, number: u32) -> Result<(), AllocError>
+/// Adds a number in decimal.
+pub fn push_number(line: &mut Vec<u8>, number: u32) -> Result<(), AllocError>
     ensures ok { OnOk result (line.new.items ≡ line.old.items ++ decimal number) }
 {
     let mut digits = [0; 10];

@@ -9,7 +9,7 @@ use tam_input::Ending;
 
 /// Writes a text, and answers the ending, or that of a write fault.
 pub fn say<K: Sink>(text: &[u8], ending: Ending, out: &mut K) -> Ending
-    requires { ending ≢ WriteFault }
+    requires no_fault { ending ≢ WriteFault }
     ensures said { IsSaid ending text.now result (K.taken out.old) (K.taken out.new) (K.faults out.old) (K.faults out.new) }
 {
     match write_whole(out, text) {
@@ -27,7 +27,7 @@ pub fn say_no_memory<K: Sink>(out: &mut K) -> Ending
 
 /// Writes a text that was made, if it was, and answers the ending; else says that memory was wanted.
 pub fn say_made<E: Drop, K: Sink>(made: Result<Vec<u8>, E>, ending: Ending, out: &mut K) -> Ending
-    requires { ending ≢ WriteFault }
+    requires no_fault { ending ≢ WriteFault }
     ensures said { MatchResult made
         (λ text. IsSaid ending text.items result (K.taken out.old) (K.taken out.new) (K.faults out.old) (K.faults out.new))
         (λ _. IsSaid NoMemory no_memory_line result (K.taken out.old) (K.taken out.new) (K.faults out.old) (K.faults out.new)) }

@@ -220,6 +220,68 @@ fn graphs_are_checked_and_printed(rt: HostRuntime) -> Result<(), Fail> {
     Ok(())
 }
 
+// Events are vertices that fire, inlets apart, and messages that come. Of a ladder's `main` 3 fire and 6 messages come; of a code that calls the next one 104
+// and 4, of the last one 102 and none. Of a wave's `main` 11 and 13; of a row 20 and 15, of the end of the rows 5; of a cell 22 and 8, and 8 and 6 more where
+// it is a sum, 2 where it isn't; of the end of a row 7.
+#[test]
+fn large_inputs_are_made_and_run(rt: HostRuntime) -> Result<(), Fail> {
+    let cases = [
+        Case {
+            words: &["make", "ladder", "1"],
+            text: b"",
+            fail: &[],
+            taken: b"shape ladder 1\nbytes 1707\nlevel graph\nresult 0 = 100\nquiet\nevents 111\nactivations 2\ncells 0\n",
+            status: 0,
+        },
+        Case {
+            words: &["make", "wave", "3"],
+            text: b"",
+            fail: &[],
+            taken: b"shape wave 3\nbytes 1258\nlevel graph\nresult 0 = 6\nquiet\nevents 491\nactivations 17\ncells 12\n",
+            status: 0,
+        },
+        Case {
+            words: &["make", "ladder", "1"],
+            text: b"",
+            fail: &[1],
+            taken: b"",
+            status: 10,
+        },
+        Case {
+            words: &["make", "ladder", "1"],
+            text: b"",
+            fail: &[2],
+            taken: b"shape ladder 1\nbytes 1707\n",
+            status: 10,
+        },
+        Case {
+            words: &["make", "ladder", "1"],
+            text: b"",
+            fail: &[3],
+            taken: b"shape ladder 1\nbytes 1707\nlevel graph\n",
+            status: 10,
+        },
+        Case {
+            words: &["make", "ring", "201"],
+            text: b"",
+            fail: &[],
+            taken: b"usage Shape\n",
+            status: 2,
+        },
+        Case {
+            words: &["make", "ladder", "201"],
+            text: b"",
+            fail: &[],
+            taken: b"usage Count\n",
+            status: 2,
+        },
+    ];
+    for case in &cases {
+        check(&rt, case)?;
+    }
+    Ok(())
+}
+
 #[test]
 fn refusals_have_their_line(rt: HostRuntime) -> Result<(), Fail> {
     let cases = [

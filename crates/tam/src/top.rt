@@ -9,6 +9,7 @@ use crate::status::Status;
 use std::alloc::Global;
 use tam_edge::{Files, Sink};
 use tam_input::{Ending, read_input};
+use tam_make::laws::law_made;
 use tam_run::law_runs;
 
 /// Does all that the program does, and answers its status.
@@ -17,8 +18,9 @@ use tam_run::law_runs;
 pub fn tam<F: Files, K: Sink>(alloc: Global, words: &[String], files: &mut F, out: &mut K) -> Status
     // For some bytes of each file, which agree with all that is told: the status that is answered and the text that was written, or a front of it, are
     // theirs. Whatever run the words ask for, of whatever accepted graph the bytes spell, on whatever arguments and under whatever order of delivery:
-    // each line is a result of the firing rules, a quiet run has exactly the results, each once, and every other end has its cause. Each other input
-    // is answered by its listing, or by its first fault. What isn't asked for stays as it was, and a read fault is told by the count of the file
+    // each line is a result of the firing rules, a quiet run has exactly the results, each once, and every other end has its cause. So it is with
+    // the runs of a large input that is made. Each other input is answered by its listing, or by its first fault. What isn't asked for stays as it
+    // was, and a read fault is told by the count of the file
     // that failed.
     ensures headline { IsRightCall (ask_of words.now) (told F.left F.faults F.ends files.old) (told F.left F.faults F.ends files.new) result.code
         (K.taken out.old) (K.taken out.new) (K.faults out.old) (K.faults out.new) }
@@ -34,6 +36,7 @@ fn end<F: Files, K: Sink>(alloc: Global, words: &[String], files: &mut F, out: &
     ensures headline { IsRightCall (ask_of words.now) (told F.left F.faults F.ends files.old) (told F.left F.faults F.ends files.new) (code_of result)
         (K.taken out.old) (K.taken out.new) (K.faults out.old) (K.faults out.new) }
 {
+    law_made();
     law_runs();
     match read_input(alloc, words, files) {
         Ok(input) => answer(alloc, input, out),

@@ -18,7 +18,7 @@ use Rattle.tam_input.specs.declared.refusal.Refusal.TheVariants as refusal
 use Rattle.tam_input.specs.Told.{Files, Told, HasFailed, GivesEnds, count_up, Contents, Agrees, ForSome, OfSome}
 use Rattle.tam_input.specs.Refusing.{IsOrder, from_words, from_file, Refuses, usage, order_failed, long_order, no_order, text_failed, too_long, wanted}
 use Rattle.tam_input.specs.Refusing.{text_file, text_of, bytes_of, file_count, files_read, most_bytes, most_order_bytes}
-use Rattle.tam_input.specs.Inputs.{Request, request_of, IsInput, IsReadOut, NamesFile, ReadsOut, RefusesFile, IsTextOf, RefusesText}
+use Rattle.tam_input.specs.Inputs.{Request, request_of, IsInput, IsReadOut, NamesFile, KeepsNamed, ReadsOut, RefusesFile, IsTextOf, RefusesText}
 use Rattle.tam_input.specs.Inputs.{IsOrderIn, RefusesOrder, long, no_list, not_read, no_room, refusal_of, refusal_of_order, refusal_of_words}
 use Rattle.tam_input.proofs.Contents.{told_or_none, told-agrees, put_in, put-here, put-other, put-agrees, order-kept, text-differs}
 
@@ -181,3 +181,16 @@ module _ (job : JobParts) (before : Told) where
     all-out order-out text-out rest file (inl is) =
         subst (λ l. IsReadOut (before.left file) l) (sym (rest file (λ text. text-differs job file file text is refl))) (order-out file is)
     all-out order-out text-out rest file (inr is) = subst (λ l. IsReadOut l (now.left file)) (left-text file is) (text-out file is)
+
+-- what is left of the files behind the order file and the text
+module _ (job : JobParts) (before mid now : Told) where
+  pub both-keep : (Failed : Type 0) (text : Option (List ℕ)) → text ≡ text_file job → KeepsNamed (λ file. job.order_file ≡ Some file) before mid ⊥
+      → KeepsNamed (λ file. text ≡ Some file) mid now Failed → KeepsNamed (NamesFile job) before now Failed
+  both-keep Failed text is first second = record {
+    other_left = λ file none. second.other_left file (λ e. none (inr (sym is ∙ e))) ∙ first.other_left file (λ e. none (inl e));
+    other_faults = λ file none. second.other_faults file (λ e. none (inr (sym is ∙ e))) ∙ first.other_faults file (λ e. none (inl e));
+    counted = λ failed.
+        let s = second.counted failed in
+        (s.0, inr (sym is ∙ s.1), subst (λ n. Rose n (now.faults s.0)) (first.uncounted (λ none. none) s.0) s.2);
+    uncounted = λ fine file. second.uncounted fine file ∙ first.uncounted (λ none. none) file;
+  }

@@ -7,10 +7,12 @@ use Rattle.tam_msgs.specs.declared.limits.Limits.{Limits}
 use Rattle.tam_msgs.specs.declared.order.OrderError.{OrderError}
 use Rattle.tam_msgs.specs.declared.order.OrderError.TheVariants as order
 use Rattle.tam_msgs.specs.Orders.{order_of}
+use Rattle.tam_make.specs.declared.shape.Shape.{Shape}
 use Rattle.tam_words.specs.declared.mode.Mode.{Mode}
 use Rattle.tam_words.specs.declared.words_error.WordsError.{WordsError}
 use Rattle.tam_words.specs.declared.words_error.WordsError.TheVariants as words
 use Rattle.tam_words.specs.declared.usage_cause.UsageCause.TheVariants.{Order as Bad_order}
+use Rattle.tam_words.specs.Names.{shape_of}
 use Rattle.tam_words.specs.Jobs.{Asked, Job, Usage, JobParts}
 use Rattle.tam_input.specs.declared.refusal.Refusal.{Refusal}
 use Rattle.tam_input.specs.declared.refusal.Refusal.TheVariants as refusal
@@ -19,16 +21,18 @@ use Rattle.tam_input.specs.Refusing.{IsOrder, text_file, text_of, file_count, fi
 
 -- ---- what was read
 
--- what a mode, arguments, an order list and limits ask of a text
+-- what a mode, a shape and its count, arguments, an order list and limits ask of a text
 pub record Request : Type 0 where
   pub mode : Mode
+  pub shape : Option Shape  -- that of the name
+  pub count : ℕ
   pub args : List ℕ
   pub order : List Item
   pub limits : Limits
 
 -- what a job asks of its text, under an order list
 abbrev pub request_of : JobParts → List Item → Request
-request_of job order = record { mode = job.mode; args = job.args; order = order; limits = job.limits }
+request_of job order = record { mode = job.mode; shape = shape_of job.name; count = job.count; args = job.args; order = order; limits = job.limits }
 
 -- the words ask for a job; it asks so of these bytes, its text, under its order list; and each of its files was read to its end
 pub record IsInput (ask : Asked) (contents : Contents) (before now : Told) (request : Request) (bytes : List ℕ) : Type 0 where

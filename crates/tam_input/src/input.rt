@@ -140,13 +140,15 @@ fn unless_same<'a>(read: &str, name: &'a str) -> Option<&'a str>
     }
 }
 
-// The most bytes of the text that a mode reads.
+// The most bytes of the text that a mode reads: none where it reads no file.
 fn most_bytes(mode: Mode) -> u32
     ensures value { result ≡ most_bytes mode }
 {
     match mode {
-        Mode::Graph | Mode::Check | Mode::EmitDg | Mode::Sets | Mode::Parts => MOST_BYTES,
+        Mode::Graph | Mode::Check | Mode::EmitDg | Mode::Sets | Mode::Parts | Mode::EmitTl0 =>
+            MOST_BYTES,
         Mode::Assemble => MOST_ASSEMBLY_BYTES,
+        Mode::Make => 0,
     }
 }
 

@@ -87,6 +87,8 @@ fn usage_line(cause: UsageCause) -> &'static [u8]
         UsageCause::Words => b"usage Words\n",
         UsageCause::Mode => b"usage Mode\n",
         UsageCause::Extra => b"usage Extra\n",
+        UsageCause::Shape => b"usage Shape\n",
+        UsageCause::Count => b"usage Count\n",
         UsageCause::Args => b"usage Args\n",
         UsageCause::Order => b"usage Order\n",
         UsageCause::Budget => b"usage Budget\n",

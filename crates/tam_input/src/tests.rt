@@ -94,6 +94,28 @@ fn files_are_read_in_order(rt: HostRuntime) -> Result<(), Fail> {
             fail: &[1],
             read: Err(Refusal::NotRead),
         },
+        // What is made is read of no file, also where there is one of the name.
+        Case {
+            words: &["make", "ladder", "1"],
+            text: b"dg 1\n",
+            order: b"",
+            fail: &[1],
+            read: Ok(b""),
+        },
+        Case {
+            words: &["make", "f", "1"],
+            text: b"dg 1\n",
+            order: b"",
+            fail: &[],
+            read: Err(Refusal::Usage(UsageCause::Shape)),
+        },
+        Case {
+            words: &["make", "wave", "61"],
+            text: b"dg 1\n",
+            order: b"",
+            fail: &[],
+            read: Err(Refusal::Usage(UsageCause::Count)),
+        },
         Case {
             words: &["graph", "gone", "--frames=0"],
             text: b"dg 1\n",

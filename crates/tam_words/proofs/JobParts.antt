@@ -1,22 +1,27 @@
--- What a job that words ask for is like: its limits are in their ranges, and its arguments are words.
+-- What a job that words ask for is like: its limits are in their ranges, its arguments are words, and what it is to make may be made.
 use Rattle.std.proofs.Common.{◌≡◌, ◌<◌, ◌≤◌, ◌^◌, ℕ, zero, suc, Bool, true, false, not, ◌&&◌, ◌==◌, List, [], ◌∷◌, refl, ap, subst, length}
-use Rattle.std.proofs.Common.{slice_get, nat_lt, nat_le, ◌-◌, ◌%◌, arith, leb-true}
+use Rattle.std.proofs.Common.{slice_get, nat_lt, nat_le, ◌-◌, ◌%◌, arith, leb-true, true≢false, sym, ◌∙◌}
 use Rattle.std.specs.Prelude.{Option, None, Some, Result, Ok, Err, unwrap_or}
 use Rattle.std.specs.List.{slice_split}
 use Rattle.tam_word.specs.Numbers.{word_of, decimal_up_to, negative_of, hexadecimal_of, some_if, are_digits, number_behind}
 use Rattle.tam_word.proofs.Tests.{both-true, test-below}
 use Rattle.tam_word.proofs.NumberLemmas.{eight_digits}
 use Rattle.tam_word.proofs.Spelled.{decimal_up_to-is}
+use Rattle.tam_make.specs.declared.shape.Shape.{Shape}
+use Rattle.tam_make.specs.declared.shape.Shape.TheVariants.{Ladder, Wave}
+use Rattle.tam_make.specs.MadeTexts.{IsCount, largest}
 use Rattle.tam_msgs.specs.declared.limits.Limits.{Limits}
 use Rattle.tam_msgs.specs.Messages.{AreLimits}
 use Rattle.tam_words.specs.declared.mode.Mode.{Mode}
 use Rattle.tam_words.specs.declared.setting.Setting.TheVariants.{Args as Set_args, Order as Set_order, OrderFile as Set_order_file}
 use Rattle.tam_words.specs.declared.setting.Setting.TheVariants.{Budget as Set_budget, Frames as Set_frames, Cells as Set_cells}
 use Rattle.tam_words.specs.declared.usage_cause.UsageCause.{UsageCause}
-use Rattle.tam_words.specs.declared.usage_cause.UsageCause.TheVariants.{Words, Mode as Unknown_mode, Extra, Args, Order, Budget, Frames, Cells}
-use Rattle.tam_words.specs.Names.{mode_of}
-use Rattle.tam_words.specs.Options.{given, all_words, args_of, is_comma, short_order_of, at_least, limit_of, are_options}
-use Rattle.tam_words.specs.Jobs.{JobParts, job_parts, Asked, Job, asks_with, some_or, holds_or, is_plain, is_extra, limits_of, job_of, asked}
+use Rattle.tam_words.specs.declared.usage_cause.UsageCause.TheVariants.{Words, Mode as Unknown_mode, Extra, Shape as Unknown_shape, Count}
+use Rattle.tam_words.specs.declared.usage_cause.UsageCause.TheVariants.{Args, Order, Budget, Frames, Cells}
+use Rattle.tam_words.specs.Names.{mode_of, shape_of, makes}
+use Rattle.tam_words.specs.Options.{given, all_words, args_of, is_comma, short_order_of, at_least, limit_of, usual_limits, count_of}
+use Rattle.tam_words.specs.Jobs.{JobParts, job_parts, IsMakeable, Asked, Job, asks_with, some_or, holds_or, is_plain, is_extra, limits_of, job_of, made_job_of}
+use Rattle.tam_words.specs.Jobs.{may_follow, asked}
 
 -- ---- words
 
@@ -118,6 +123,25 @@ limit-in-range usual least most (Some text) n low high small e = go (decimal_up_
         let l = (decimal_up_to-is most text m small f).1 in
         (p.0, omega (arith, l, p.1))
 
+-- ---- counts
+
+-- the largest number of a shape is small
+small-largest : (shape : Shape) → largest shape < 2 ^ 64
+small-largest Ladder = omega arith
+small-largest Wave = omega arith
+
+-- a count that words give a shape is one that it may have
+count-in-range : (shape : Shape) (words : List (List ℕ)) (n : ℕ) → count_of shape words ≡ Some n → IsCount shape n
+count-in-range shape [] n e = absurd (cc)
+count-in-range shape (word ∷ words) n e = go (decimal_up_to (largest shape) word) refl e
+  where
+    go : (o : Option ℕ) → decimal_up_to (largest shape) word ≡ o → at_least 1 o ≡ Some n → IsCount shape n
+    go None f h = absurd (cc)
+    go (Some m) f h =
+        let p = least-there 1 n m h in
+        let l = (decimal_up_to-is (largest shape) word m (small-largest shape) f).1 in
+        (omega (arith, p.0), omega (arith, l, p.1))
+
 -- ---- jobs
 
 -- where a job is asked for, there is the value that it is asked with
@@ -171,30 +195,54 @@ limits-in-range options limits e =
 pub record IsRightJob (job : JobParts) : Type 0 where
   pub limits_in_range : AreLimits job.limits
   pub args_are_words : (k w : ℕ) → slice_get job.args k ≡ Some w → w < 2 ^ 32
+  pub makeable : makes job.mode ≡ true → IsMakeable (shape_of job.name) job.count
+  pub no_order_file : makes job.mode ≡ true → job.order_file ≡ None
 
 -- a job has one record of parts
 parts-are : (a b : JobParts) → Job a ≡ Job b → a ≡ b
 parts-are a b e = cc
 
 -- a job of options is right
-job-right : (mode : Mode) (name : List ℕ) (options : List (List ℕ)) (job : JobParts) → job_of mode name options ≡ Job job → IsRightJob job
-job-right mode name options job e =
+job-right : (mode : Mode) (name : List ℕ) (options : List (List ℕ)) (job : JobParts) → makes mode ≡ false → job_of mode name options ≡ Job job → IsRightJob job
+job-right mode name options job reads e =
     let a = with-value (some_or Args (args_of (unwrap_or (given Set_args options) []))) _ job e in
     let o = with-value (some_or Order (short_order_of (unwrap_or (given Set_order options) []))) _ job a.2 in
     let l = with-value (limits_of options) _ job o.2 in
-    let made = job_parts mode name a.0 o.0 (given Set_order_file options) l.0 in
+    let made = job_parts mode name 0 a.0 o.0 (given Set_order_file options) l.0 in
     subst IsRightJob (parts-are made job l.2)
     (record {
       limits_in_range = limits-in-range options l.0 l.1;
       args_are_words = args-below (unwrap_or (given Set_args options) []) a.0 (some-there Args _ a.0 a.1);
+      makeable = λ m. absurd (true≢false (sym m ∙ reads));
+      no_order_file = λ m. absurd (true≢false (sym m ∙ reads));
     })
 
--- the limits of a job that words ask for are in their ranges, and its arguments are words
+-- and so is one that makes its input
+made-right : (mode : Mode) (name : List ℕ) (words : List (List ℕ)) (job : JobParts) → made_job_of mode name words ≡ Job job → IsRightJob job
+made-right mode name words job e =
+    let s = with-value (some_or Unknown_shape (shape_of name)) _ job e in
+    let c = with-value (some_or Count (count_of s.0 words)) _ job s.2 in
+    let made = job_parts mode name c.0 [] [] None usual_limits in
+    let shape = some-there Unknown_shape (shape_of name) s.0 s.1 in
+    subst IsRightJob (parts-are made job c.2)
+    (record {
+      limits_in_range = record { some_frame = omega arith; few_frames = omega arith; few_cells = omega arith; budget = omega arith };
+      args_are_words = none-there;
+      makeable = λ m. subst (λ o. IsMakeable o c.0) (sym shape) (count-in-range s.0 words c.0 (some-there Count _ c.0 c.1));
+      no_order_file = λ m. refl;
+    })
+
+-- a job that words ask for is right
 pub asked-right : (words : List (List ℕ)) (job : JobParts) → asked words ≡ Job job → IsRightJob job
 asked-right [] job e = absurd (cc)
 asked-right (mode ∷ []) job e = absurd (cc)
-asked-right (mode ∷ name ∷ options) job e =
-    let a = with-value (holds_or Words (is_plain mode && is_plain name && are_options options)) _ job e in
+asked-right (mode ∷ name ∷ words) job e =
+    let a = with-value (holds_or Words (is_plain mode && is_plain name && may_follow (mode_of mode) words)) _ job e in
     let m = with-value (some_or Unknown_mode (mode_of mode)) _ job a.2 in
-    let x = with-value (holds_or Extra (not (is_extra m.0 options))) _ job m.2 in
-    job-right m.0 name options job x.2
+    go m.0 (makes m.0) refl m.2
+  where
+    go : (m : Mode) (t : Bool) → makes m ≡ t
+        → (elim t [ true ↦ made_job_of m name words | false ↦ asks_with (holds_or Extra (not (is_extra m words))) (λ _. job_of m name words) ]) ≡ Job job
+        → IsRightJob job
+    go m true t h = made-right m name words job h
+    go m false t h = let x = with-value (holds_or Extra (not (is_extra m words))) _ job h in job-right m name words job t x.2

@@ -1,14 +1,17 @@
--- The names of modes, options and causes.
+-- The names of modes, shapes, options and causes.
 -- The rule in words: docs/FORMATS.md, "Command line".
 use Rattle.std.specs.Prelude.{ℕ, Bool, true, false, List, [], ◌∷◌, Option, codes, find}
 use Rattle.std.specs.Str.{bytes_eq}
 use Rattle.tam_words.specs.declared.mode.Mode.{Mode}
-use Rattle.tam_words.specs.declared.mode.Mode.TheVariants.{Graph, Check, EmitDg, Sets, Parts, Assemble}
+use Rattle.tam_make.specs.declared.shape.Shape.{Shape}
+use Rattle.tam_make.specs.declared.shape.Shape.TheVariants.{Ladder, Wave}
+use Rattle.tam_words.specs.declared.mode.Mode.TheVariants.{Graph, Check, EmitDg, Sets, Parts, EmitTl0, Assemble, Make}
 use Rattle.tam_words.specs.declared.setting.Setting.{Setting}
 use Rattle.tam_words.specs.declared.setting.Setting.TheVariants.{Args as Set_args, Order as Set_order, OrderFile as Set_order_file}
 use Rattle.tam_words.specs.declared.setting.Setting.TheVariants.{Budget as Set_budget, Frames as Set_frames, Cells as Set_cells}
 use Rattle.tam_words.specs.declared.usage_cause.UsageCause.{UsageCause}
-use Rattle.tam_words.specs.declared.usage_cause.UsageCause.TheVariants.{Words, Mode as Unknown_mode, Extra, Args, Order, Budget, Frames, Cells, ArgsCount}
+use Rattle.tam_words.specs.declared.usage_cause.UsageCause.TheVariants.{Words, Mode as Unknown_mode, Extra, Shape as Unknown_shape, Count}
+use Rattle.tam_words.specs.declared.usage_cause.UsageCause.TheVariants.{Args, Order, Budget, Frames, Cells, ArgsCount}
 
 -- ---- modes
 
@@ -19,11 +22,13 @@ mode_name Check = codes "check"
 mode_name EmitDg = codes "emit-dg"
 mode_name Sets = codes "sets"
 mode_name Parts = codes "parts"
+mode_name EmitTl0 = codes "emit-tl0"
 mode_name Assemble = codes "assemble"
+mode_name Make = codes "make"
 
 -- every mode
 abbrev pub modes : List Mode
-modes = Graph ∷ Check ∷ EmitDg ∷ Sets ∷ Parts ∷ Assemble ∷ []
+modes = Graph ∷ Check ∷ EmitDg ∷ Sets ∷ Parts ∷ EmitTl0 ∷ Assemble ∷ Make ∷ []
 
 -- the mode that a word names
 abbrev pub mode_of : List ℕ → Option Mode
@@ -36,7 +41,20 @@ runs Check = false
 runs EmitDg = false
 runs Sets = false
 runs Parts = false
+runs EmitTl0 = false
 runs Assemble = false
+runs Make = false
+
+-- the mode makes its input: a shape stands in the place of the file's name, and a count behind it
+abbrev pub makes : Mode → Bool
+makes Graph = false
+makes Check = false
+makes EmitDg = false
+makes Sets = false
+makes Parts = false
+makes EmitTl0 = false
+makes Assemble = false
+makes Make = true
 
 -- the mode reads the file of its name
 abbrev pub reads_file : Mode → Bool
@@ -45,7 +63,24 @@ reads_file Check = true
 reads_file EmitDg = true
 reads_file Sets = true
 reads_file Parts = true
+reads_file EmitTl0 = true
 reads_file Assemble = true
+reads_file Make = false
+
+-- ---- shapes
+
+-- the word that names a shape
+abbrev pub shape_name : Shape → List ℕ
+shape_name Ladder = codes "ladder"
+shape_name Wave = codes "wave"
+
+-- every shape
+abbrev pub shapes : List Shape
+shapes = Ladder ∷ Wave ∷ []
+
+-- the shape that a word names
+abbrev pub shape_of : List ℕ → Option Shape
+shape_of word = find (λ shape. bytes_eq word (shape_name shape)) shapes
 
 -- ---- options
 
@@ -69,6 +104,8 @@ abbrev pub cause_name : UsageCause → List ℕ
 cause_name Words = codes "Words"
 cause_name Unknown_mode = codes "Mode"
 cause_name Extra = codes "Extra"
+cause_name Unknown_shape = codes "Shape"
+cause_name Count = codes "Count"
 cause_name Args = codes "Args"
 cause_name Order = codes "Order"
 cause_name Budget = codes "Budget"

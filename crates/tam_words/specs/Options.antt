@@ -1,4 +1,4 @@
--- The options among the words: which words are options, and the value that each option has.
+-- The words behind MODE and NAME: which are options and the value that each has, or a count.
 -- The rule in words: docs/FORMATS.md, "Command line".
 use Rattle.std.specs.Prelude.{ℕ, Bool, true, false, not, ◌==◌, ◌&&◌, nat_le, List, [], ◌∷◌, drop, length, Option, Some, None, is_some, Ok}
 use Rattle.std.specs.Prelude.{Err, Result}
@@ -6,7 +6,10 @@ use Rattle.std.specs.List.{slice_split, starts_with, filter_map, list_all, list_
 use Rattle.std.specs.Prelude.{nat_eq}
 use Rattle.tam_word.specs.Numbers.{some_if, decimal_up_to, word_of}
 use Rattle.tam_msgs.specs.declared.item.Item.{Item}
+use Rattle.tam_msgs.specs.declared.limits.Limits.{Limits}
 use Rattle.tam_msgs.specs.Orders.{order_of}
+use Rattle.tam_make.specs.declared.shape.Shape.{Shape}
+use Rattle.tam_make.specs.MadeTexts.{largest}
 use Rattle.tam_words.specs.declared.setting.Setting.{Setting}
 use Rattle.tam_words.specs.Names.{option_text, settings}
 
@@ -84,3 +87,12 @@ at_least least (Some n) = some_if (nat_le least n) n
 abbrev pub limit_of : ℕ → ℕ → ℕ → Option (List ℕ) → Option ℕ
 limit_of usual least most None = Some usual
 limit_of usual least most (Some text) = at_least least (decimal_up_to most text)
+
+-- the limits where no option sets them
+abbrev pub usual_limits : Limits
+usual_limits = record { budget = 1000000; frames = 4096; cells = 1048576 }
+
+-- the count that words give a shape, where the first of them is a number that the shape may have
+abbrev pub count_of : Shape → List (List ℕ) → Option ℕ
+count_of shape [] = None
+count_of shape (word ∷ words) = at_least 1 (decimal_up_to (largest shape) word)

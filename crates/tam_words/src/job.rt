@@ -1,14 +1,17 @@
 // A job, as its words ask for it.
-ghost use Rattle.std.specs.Prelude.{◌≡◌, ◌<◌, ◌^◌, ℕ, [], IfSome, IfNone, Some, None, slice_get};
+ghost use Rattle.std.specs.Prelude.{◌≡◌, ◌<◌, ◌^◌, ℕ, true, [], IfSome, IfNone, Some, None, slice_get};
 ghost use Rattle.std.specs.Prelude.{string_bytes};
 ghost use Rattle.std.specs.Option.{option_map};
 ghost use Rattle.tam_msgs.specs.Messages.{AreLimits};
-ghost use Rattle.tam_words.specs.Jobs.{job_parts};
+ghost use Rattle.tam_words.specs.Names.{makes, shape_of};
+ghost use Rattle.tam_words.specs.Jobs.{job_parts, IsMakeable};
 
 use crate::mode::Mode;
+use crate::shapes::shape_of;
 use std::alloc::Global;
 use std::marker::Model;
 use std::mem;
+use tam_make::Shape;
 use tam_msgs::{Limits, Order};
 
 /// What is to be done, as words ask for it.
@@ -18,6 +21,7 @@ use tam_msgs::{Limits, Order};
 pub struct Job {
     mode: Mode,
     name: String,
+    count: u32,
     args: Vec<u32>,
     order: Order,
     order_file: Option<String>,
@@ -25,40 +29,45 @@ pub struct Job {
 }
 
 impl Model for Job {
-    ghost use Rattle.std.specs.Prelude.{string_bytes};
+    ghost use Rattle.std.specs.Prelude.{◌≡◌, true, string_bytes};
     ghost use Rattle.std.specs.Option.{option_map};
     ghost use Rattle.tam_msgs.specs.Messages.{AreLimits};
-    ghost use Rattle.tam_words.specs.Jobs.{JobParts};
+    ghost use Rattle.tam_words.specs.Names.{makes, shape_of};
+    ghost use Rattle.tam_words.specs.Jobs.{JobParts, IsMakeable};
 
     ghost Value = { JobParts };
 
     ghost view = { λ job. record {
       mode = job.mode;
       name = string_bytes job.name;
+      count = job.count;
       args = job.args.items;
       order = job.order;
       order_file = option_map string_bytes job.order_file;
       limits = job.limits;
     } };
 
-    ghost invariant = { λ job. AreLimits job.limits };
+    ghost invariant = { λ job. AreLimits job.limits × (makes job.mode ≡ true → IsMakeable (shape_of (string_bytes job.name)) job.count) };
 }
 
 impl Job {
     pub(crate) fn new(
         mode: Mode,
         name: String,
+        count: u32,
         args: Vec<u32>,
         order: Order,
         order_file: Option<String>,
         limits: Limits,
     ) -> Job
-        requires { AreLimits limits }
-        ensures value { result ≡ job_parts mode (string_bytes name) args.items order (option_map string_bytes order_file) limits }
+        requires limits { AreLimits limits }
+        requires makeable { makes mode ≡ true → IsMakeable (shape_of (string_bytes name)) count }
+        ensures value { result ≡ job_parts mode (string_bytes name) count args.items order (option_map string_bytes order_file) limits }
     {
         Job {
             mode,
             name,
+            count,
             args,
             order,
             order_file,
@@ -72,11 +81,26 @@ impl Job {
         self.mode
     }
 
-    /// The name of the file.
+    /// The name of the file, or of a shape.
     pub fn name(&self) -> &str
         ensures value { result.now ≡ self.now.name }
     {
         self.name.as_str()
+    }
+
+    /// The shape that the name is that of. A mode that makes its input has one, which may have the count.
+    pub fn shape(&self) -> Option<Shape>
+        ensures value { result ≡ shape_of self.now.name }
+        ensures makeable { makes self.now.mode ≡ true → IsMakeable result self.now.count }
+    {
+        shape_of(self.name.as_bytes())
+    }
+
+    /// The count, or 0 where none is given.
+    pub fn count(&self) -> u32
+        ensures value { result ≡ self.now.count }
+    {
+        self.count
     }
 
     pub fn args(&self) -> &[u32]

@@ -1,7 +1,7 @@
 // The modes of the program.
 ghost use Rattle.std.specs.Prelude.{◌≡◌, find};
 ghost use Rattle.std.specs.Str.{bytes_eq};
-ghost use Rattle.tam_words.specs.Names.{mode_name, mode_of, reads_file, runs};
+ghost use Rattle.tam_words.specs.Names.{makes, mode_name, mode_of, reads_file, runs};
 
 /// What the program is to do.
 ///
@@ -13,17 +13,21 @@ pub enum Mode {
     EmitDg,
     Sets,
     Parts,
+    EmitTl0,
     Assemble,
+    Make,
 }
 
 /// Every mode, in the order of `Mode`.
-pub const MODES: [Mode; 6] = [
+pub const MODES: [Mode; 8] = [
     Mode::Graph,
     Mode::Check,
     Mode::EmitDg,
     Mode::Sets,
     Mode::Parts,
+    Mode::EmitTl0,
     Mode::Assemble,
+    Mode::Make,
 ];
 
 impl Mode {
@@ -37,7 +41,9 @@ impl Mode {
             Mode::EmitDg => b"emit-dg",
             Mode::Sets => b"sets",
             Mode::Parts => b"parts",
+            Mode::EmitTl0 => b"emit-tl0",
             Mode::Assemble => b"assemble",
+            Mode::Make => b"make",
         }
     }
 
@@ -47,7 +53,29 @@ impl Mode {
     {
         match self {
             Mode::Graph => true,
-            Mode::Check | Mode::EmitDg | Mode::Sets | Mode::Parts | Mode::Assemble => false,
+            Mode::Check
+            | Mode::EmitDg
+            | Mode::Sets
+            | Mode::Parts
+            | Mode::EmitTl0
+            | Mode::Assemble
+            | Mode::Make => { false }
+        }
+    }
+
+    /// Whether the mode makes its input: a shape stands in the place of the file's name, and a count behind it.
+    pub fn makes(self) -> bool
+        ensures value { result ≡ makes self }
+    {
+        match self {
+            Mode::Make => true,
+            Mode::Graph
+            | Mode::Check
+            | Mode::EmitDg
+            | Mode::Sets
+            | Mode::Parts
+            | Mode::EmitTl0
+            | Mode::Assemble => false,
         }
     }
 
@@ -56,8 +84,14 @@ impl Mode {
         ensures value { result ≡ reads_file self }
     {
         match self {
-            Mode::Graph => true,
-            Mode::Check | Mode::EmitDg | Mode::Sets | Mode::Parts | Mode::Assemble => true,
+            Mode::Graph
+            | Mode::Check
+            | Mode::EmitDg
+            | Mode::Sets
+            | Mode::Parts
+            | Mode::EmitTl0
+            | Mode::Assemble => true,
+            Mode::Make => false,
         }
     }
 }

@@ -1,21 +1,23 @@
 // The job that words ask for.
-ghost use Rattle.std.specs.Prelude.{◌≡◌, map, string_bytes, IfOk, IfErr, Ok, [], unwrap_or};
+ghost use Rattle.std.specs.Prelude.{◌≡◌, map, string_bytes, IfOk, IfErr, Ok, [], unwrap_or, false};
 ghost use Rattle.std.specs.Option.{option_map};
 ghost use Rattle.tam_msgs.specs.Messages.{AreLimits};
 ghost use Rattle.tam_words.specs.declared.setting.Setting.TheVariants.{OrderFile as Set_order_file};
-ghost use Rattle.tam_words.specs.Options.{given};
-ghost use Rattle.tam_words.specs.Jobs.{asked, job_of, limits_of, is_plain, is_extra, Job as Asks};
+ghost use Rattle.tam_words.specs.Names.{makes};
+ghost use Rattle.tam_words.specs.Options.{given, usual_limits};
+ghost use Rattle.tam_words.specs.Jobs.{asked, job_of, made_job_of, limits_of, is_plain, is_extra, may_follow, Job as Asks};
 ghost use Rattle.tam_words.specs.Tells.{Tells, TellsOf};
 
 use crate::job::Job;
 use crate::mode::{Mode, mode_of};
 use crate::options::{are_options, given, is_given};
 use crate::setting::Setting;
+use crate::shapes::{read_count, shape_of};
 use crate::usage_cause::UsageCause;
 use crate::values::{read_args, read_limit, read_order};
 use crate::words_error::WordsError;
 use std::alloc::{AllocError, Global};
-use tam_msgs::Limits;
+use tam_msgs::{Limits, Order};
 
 /// The job that the words behind the program's name ask for, or the first cause of those that forbid one. Want of memory may hide a cause.
 ///
@@ -24,19 +26,33 @@ pub fn read_words(alloc: Global, words: &[String]) -> Result<Job, WordsError>
     ensures found { IfOk result (λ job. asked (map string_bytes words.now) ≡ Asks job) }
     ensures refused { IfErr result (Tells (asked (map string_bytes words.now))) }
 {
-    let [mode, name, options @ ..] = words else {
+    let [mode, name, words @ ..] = words else {
         return Err(WordsError::Usage(UsageCause::Words));
     };
-    if !is_plain(mode.as_str()) || !is_plain(name.as_str()) || !are_options(options) {
+    let found = mode_of(mode.as_bytes());
+    if !is_plain(mode.as_str()) || !is_plain(name.as_str()) || !may_follow(found, words) {
         return Err(WordsError::Usage(UsageCause::Words));
     }
-    let Some(mode) = mode_of(mode.as_bytes()) else {
+    let Some(mode) = found else {
         return Err(WordsError::Usage(UsageCause::Mode));
     };
-    if is_extra(mode, options) {
+    if mode.makes() {
+        return read_made_job(alloc, mode, name.as_str(), words);
+    }
+    if is_extra(mode, words) {
         return Err(WordsError::Usage(UsageCause::Extra));
     }
-    read_job(alloc, mode, name.as_str(), options)
+    read_job(alloc, mode, name.as_str(), words)
+}
+
+// Whether the words may stand behind MODE and NAME: one at most in a mode that makes its input, else options alone.
+fn may_follow(mode: Option<Mode>, words: &[String]) -> bool
+    ensures value { result ≡ may_follow mode (map string_bytes words.now) }
+{
+    match mode {
+        Some(mode) if mode.makes() => matches!(words, [] | [_]),
+        _ => are_options(words),
+    }
 }
 
 // Whether the word isn't empty and doesn't begin with `-`.
@@ -61,6 +77,7 @@ fn is_extra(mode: Mode, options: &[String]) -> bool
 
 // The job of a mode on a file with options, if each option's value is right.
 fn read_job(alloc: Global, mode: Mode, name: &str, options: &[String]) -> Result<Job, WordsError>
+    requires reads { makes mode ≡ false }
     ensures found { IfOk result (λ job. job_of mode name.now (map string_bytes options.now) ≡ Asks job) }
     ensures refused { IfErr result (Tells (job_of mode name.now (map string_bytes options.now))) }
 {
@@ -69,7 +86,36 @@ fn read_job(alloc: Global, mode: Mode, name: &str, options: &[String]) -> Result
     let limits = read_limits(options)?;
     let order_file = order_file(alloc, options)?;
     let name = String::from_str(alloc, name)?;
-    Ok(Job::new(mode, name, args, order, order_file, limits))
+    Ok(Job::new(mode, name, 0, args, order, order_file, limits))
+}
+
+// The job of a mode that makes its input, if the name is that of a shape, which may have the count.
+fn read_made_job(alloc: Global, mode: Mode, name: &str, words: &[String]) -> Result<Job, WordsError>
+    ensures found { IfOk result (λ job. made_job_of mode name.now (map string_bytes words.now) ≡ Asks job) }
+    ensures refused { IfErr result (Tells (made_job_of mode name.now (map string_bytes words.now))) }
+{
+    let Some(shape) = shape_of(name.as_bytes()) else {
+        return Err(WordsError::Usage(UsageCause::Shape));
+    };
+    let Some(count) = read_count(shape, words) else {
+        return Err(WordsError::Usage(UsageCause::Count));
+    };
+    let name = String::from_str(alloc, name)?;
+    let args = Vec::new(alloc);
+    let order = Order::none(alloc);
+    Ok(Job::new(mode, name, count, args, order, None, usual_limits()))
+}
+
+// The limits where no option sets them.
+fn usual_limits() -> Limits
+    ensures value { result ≡ usual_limits }
+    ensures in_range { AreLimits result }
+{
+    Limits {
+        budget: 1_000_000,
+        frames: 4096,
+        cells: 1_048_576,
+    }
 }
 
 // The limits of a run.

@@ -1,10 +1,12 @@
 // Words and what they ask for, each worked by hand from the rule in the crate's first lines.
 use crate::mode::Mode;
 use crate::reading::read_words;
+use crate::shapes::shape_name;
 use crate::usage_cause::UsageCause;
 use crate::words_error::WordsError;
 use std::process::Abort;
 use std::test::Fail;
+use tam_make::Shape;
 use tam_msgs::{Choice, Limits};
 
 fn texts<R: AllocGlobal>(rt: &R, words: &[&str]) -> Result<Vec<String>, Fail> {
@@ -29,7 +31,7 @@ fn check_cause<R: Abort + AllocGlobal>(
 
 #[test]
 fn wrong_words_have_their_cause(rt: HostRuntime) -> Result<(), Fail> {
-    let cases: [(&[&str], UsageCause); 27] = [
+    let cases: [(&[&str], UsageCause); 42] = [
         (&[], UsageCause::Words),
         (&["graph"], UsageCause::Words),
         (&["", "f"], UsageCause::Words),
@@ -75,6 +77,21 @@ fn wrong_words_have_their_cause(rt: HostRuntime) -> Result<(), Fail> {
             UsageCause::Cells,
         ),
         (&["check", "f", "--help"], UsageCause::Words),
+        (&["graph", "f", "2"], UsageCause::Words),
+        (&["make"], UsageCause::Words),
+        (&["make", ""], UsageCause::Words),
+        (&["make", "-ladder", "1"], UsageCause::Words),
+        (&["make", "ladder", "1", "1"], UsageCause::Words),
+        (&["make", "ladder", "201", "--args=0"], UsageCause::Words),
+        (&["make", "ring", "1"], UsageCause::Shape),
+        (&["make", "ladders"], UsageCause::Shape),
+        (&["make", "ladder"], UsageCause::Count),
+        (&["make", "ladder", "0"], UsageCause::Count),
+        (&["make", "ladder", "201"], UsageCause::Count),
+        (&["make", "wave", "61"], UsageCause::Count),
+        (&["make", "wave", "01"], UsageCause::Count),
+        (&["make", "wave", "--args=1"], UsageCause::Count),
+        (&["make", "wave", ""], UsageCause::Count),
     ];
     for (words, cause) in cases {
         check_cause(&rt, words, cause)?;
@@ -111,6 +128,7 @@ fn modes_have_their_words(rt: HostRuntime) -> Result<(), Fail> {
         ("emit-dg", Mode::EmitDg),
         ("sets", Mode::Sets),
         ("parts", Mode::Parts),
+        ("emit-tl0", Mode::EmitTl0),
         ("assemble", Mode::Assemble),
     ];
     for (word, mode) in cases {
@@ -123,10 +141,30 @@ fn modes_have_their_words(rt: HostRuntime) -> Result<(), Fail> {
 }
 
 #[test]
+fn shapes_have_their_counts(rt: HostRuntime) -> Result<(), Fail> {
+    let cases = [
+        ("ladder", "1", Shape::Ladder, 1),
+        ("ladder", "200", Shape::Ladder, 200),
+        ("wave", "1", Shape::Wave, 1),
+        ("wave", "60", Shape::Wave, 60),
+    ];
+    for (name, word, shape, count) in cases {
+        let texts = texts(&rt, &["make", name, word])?;
+        let job = read_words(rt.alloc(), &texts)?;
+        assert_eq!(rt; job.mode(), Mode::Make, "at {name} {word}");
+        assert_eq!(rt; job.shape(), Some(shape), "at {name} {word}");
+        assert_eq!(rt; job.count(), count, "at {name} {word}");
+        assert_eq!(rt; shape_name(shape), name.as_bytes());
+    }
+    Ok(())
+}
+
+#[test]
 fn a_job_has_its_defaults(rt: HostRuntime) -> Result<(), Fail> {
     let texts = texts(&rt, &["graph", "a-b=c"])?;
     let mut job = read_words(rt.alloc(), &texts)?;
     assert_eq!(rt; job.name().as_bytes(), b"a-b=c".as_slice());
+    assert_eq!(rt; job.count(), 0);
     assert_eq!(rt; job.args().len(), 0);
     assert!(rt; job.order_file().is_none());
     let usual = Limits {
@@ -209,10 +247,12 @@ fn an_order_file_may_have_any_name(rt: HostRuntime) -> Result<(), Fail> {
 
 #[test]
 fn causes_have_their_names(rt: HostRuntime) {
-    let cases: [(UsageCause, &[u8]); 9] = [
+    let cases: [(UsageCause, &[u8]); 11] = [
         (UsageCause::Words, b"Words"),
         (UsageCause::Mode, b"Mode"),
         (UsageCause::Extra, b"Extra"),
+        (UsageCause::Shape, b"Shape"),
+        (UsageCause::Count, b"Count"),
         (UsageCause::Args, b"Args"),
         (UsageCause::Order, b"Order"),
         (UsageCause::Budget, b"Budget"),

@@ -73,14 +73,14 @@ fn words_of(alloc: Global, text: &[u8]) -> Result<Option<Vec<u32>>, AllocError>
 }
 
 fn is_comma(byte: u8) -> bool
-    ensures { result ≡ is_comma byte }
+    ensures value { result ≡ is_comma byte }
 {
     byte == b','
 }
 
 // What stands between commas.
 fn parts_of(alloc: Global, text: &[u8]) -> Result<Vec<&[u8]>, AllocError>
-    ensures { IfOk result (λ parts. map (λ part. part.now) parts.items ≡ slice_split is_comma text.now) }
+    ensures value { IfOk result (λ parts. map (λ part. part.now) parts.items ≡ slice_split is_comma text.now) }
 {
     text.split(|byte| is_comma(*byte)).collect(alloc)
 }

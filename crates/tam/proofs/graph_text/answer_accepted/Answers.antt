@@ -1,8 +1,9 @@
-use Rattle.std.proofs.Common.{◌≡◌, ◌∙◌, sym, ap, refl}
-use Rattle.std.specs.Prelude.{Some}
+use Rattle.std.proofs.Common.{◌∙◌, sym, ap}
 use Rattle.tam_graph.specs.Texts.{canonical}
 use Rattle.tam_input.proofs.Found.{if-ok}
 use Rattle.tam_list.specs.Listings.{check_text, sets_text, parts_text}
+use Rattle.tl0_code.specs.CodeTexts.{program_text}
+use Rattle.tl0_keep.specs.Compiled.{compiled}
 use Rattle.tam_input.specs.Inputs.{request_of}
 use Rattle.tam_input.specs.declared.ending.Ending.TheVariants as ending
 use Rattle.tam.specs.Answers.{AnswerTo, listed, wanted, listing}
@@ -36,4 +37,11 @@ returns-in-Parts g c = record {
   done = λ bytes spelled.
       made-done _ _ _ _ (AnswerTo (request_of c.args.job.now c.args.order) bytes) ending.Done c.say_made-in-Parts.result c.print_parts.result (parts_text c.args.graph.now)
       (listed spelled (ap (λ m. listing m c.args.graph.now) (sym c.in-Parts.ensures.value))) wanted c.print_parts.ensures.value c.say_made-in-Parts.ensures.said;
+}
+
+pub returns-in-EmitTl0 : goal.returns-in-EmitTl0
+returns-in-EmitTl0 g c = record {
+  done = λ bytes spelled.
+      made-done _ _ _ _ (AnswerTo (request_of c.args.job.now c.args.order) bytes) ending.Done c.say_made-in-EmitTl0.result c.thread_text.result (program_text (compiled c.args.graph.now))
+      (listed spelled (ap (λ m. listing m c.args.graph.now) (sym c.in-EmitTl0.ensures.value))) wanted c.thread_text.ensures.value c.say_made-in-EmitTl0.ensures.said;
 }

@@ -1,4 +1,4 @@
-use Rattle.std.proofs.Common.{◌≡◌, ◌∙◌, ap, ap₂}
+use Rattle.std.proofs.Common.{◌∙◌, ap, ap₂}
 use Rattle.tam_read.specs.Placed.{line_at, lines_in}
 use Rattle.tam_input.proofs.Found.{if-ok}
 use Rattle.tam_input.specs.Inputs.{request_of}

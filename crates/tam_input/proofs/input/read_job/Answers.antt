@@ -4,7 +4,7 @@ use Rattle.tam_input.specs.Told.{told, ForSome, GivesEnds}
 use Rattle.tam_input.specs.Inputs.{request_of, IsTextOf, RefusesText, IsInput, ReadsOut}
 use Rattle.tam_words.specs.Jobs.{Job}
 use Rattle.tam_input.specs.Refusing.{file_count, most_bytes, text_file}
-use Rattle.tam_input.proofs.Found.{input-found, input-refused, all-out}
+use Rattle.tam_input.proofs.Found.{input-found, input-refused, all-out, both-keep}
 use Rattle.tam_input.proofs.input.read_job.Goals as goal
 
 pub returns-in_err-text-clause-refused : goal.returns-in_err-text-clause-refused
@@ -20,6 +20,13 @@ returns-in_err-text-clause-refused g c =
     (c.in_ok-order.ensures.files.uncounted (λ none. none)) c.in_err-text.ensures.endless c.in_err-text.field-0.0
     (subst (λ m. RefusesText mid now (text_file c.args.job) m c.in_err-text.field-0.0) most
     (subst (λ t. RefusesText mid now t (most_bytes c.read_order.new.job.mode) c.in_err-text.field-0.0) text c.in_err-text.ensures.refused)) in
+    search (rules, h)
+
+pub returns-in_err-text-clause-files : goal.returns-in_err-text-clause-files
+returns-in_err-text-clause-files g c =
+    let h = both-keep c.args.job (told g.F.Files.left g.F.Files.faults g.F.Files.ends c.args.files.now)
+    (told g.F.Files.left g.F.Files.faults g.F.Files.ends c.read_order.new.files) (told g.F.Files.left g.F.Files.faults g.F.Files.ends c.read_text.new.files) _ _
+    (ap text_file c.read_order.ensures.kept) c.in_ok-order.ensures.files c.in_err-text.ensures.files in
     search (rules, h)
 
 pub returns-clause-found : goal.returns-clause-found

@@ -5,7 +5,8 @@ use Rattle.tam_words.specs.Options.{is_comma}
 use Rattle.tam_words.proofs.values.parts_of.Goals as goal
 
 pub returns : goal.returns
-returns c =
-    map_from_collect _ c.collect.ensures.ran
-    (YieldsList-from_slice_split _ is_comma c.args.text.now c.split.ensures.rest c.split.ensures.done c.split.ensures.closure
-    (λ x r q k. search (rules, tests)))
+returns c = record {
+  value = map_from_collect _ c.collect.ensures.ran
+      (YieldsList-from_slice_split _ is_comma c.args.text.now c.split.ensures.rest c.split.ensures.done c.split.ensures.closure
+      (λ x r q k. search (rules, tests)));
+}

@@ -1,18 +1,20 @@
 //! Loops that bench/ measures: instructions of the machine, and words that are printed and read.
 //!
 //! `loops count STEPS` makes so many steps of a machine that counts in a register, `loops copy STEPS` of one that loads and stores; both print the
-//! register x5 then. `loops words COUNT` prints so many words into a buffer, reads each again and prints their sum.
-//! Over the assembler, the machine and words.
+//! register x5 then. `loops words COUNT` prints so many words into a buffer, reads each again and prints their sum. `loops forks COUNT` reads a text
+//! of thread code with one thread of so many instructions, and prints how many there are.
+//! Over the assembler, the machine, words and the text of thread code.
 #![tactic(auto)]
 
 ghost use Rattle.std.specs.Prelude.{◌≤◌, length};
 
 use rv_asm::assemble;
 use rv_machine::{Rv, RvStep};
-use std::alloc::Global;
+use std::alloc::{AllocError, Global};
 use std::env;
 use std::process::ExitCode;
 use tam_word::{print_word, read_number, read_word};
+use tl0_text::read0;
 
 const COUNT: &[u8] = b".image 1
 .stride 32
@@ -37,6 +39,23 @@ jal x0, on
 // An odd number: its multiples are all words, of every length.
 const SPREAD: u32 = 2_654_435_761;
 
+// The lines before the instructions of a text of thread code, one instruction, and the lines behind them.
+const HEAD: &[u8] = b"tl0 2
+codes 1 main 0
+code 0 0 2
+thread 1
+";
+
+const FORK: &[u8] = b"fork 0
+";
+
+const TAIL: &[u8] = b"stop
+end
+";
+
+// The most bytes of a text of thread code.
+const MOST_BYTES: usize = 67_108_864;
+
 const USAGE: u8 = 2;
 
 const NO_MEMORY: u8 = 11;
@@ -46,6 +65,7 @@ enum Loop {
     Count,
     Copy,
     Words,
+    Forks,
 }
 
 fn main(rt: HostRuntime) -> ExitCode {
@@ -68,6 +88,7 @@ fn asked(rt: &HostRuntime) -> Option<(Loop, u32)> {
         "count" => Loop::Count,
         "copy" => Loop::Copy,
         "words" => Loop::Words,
+        "forks" => Loop::Forks,
         _ => return None,
     };
     let times = read_number(words.next()?.as_str().as_bytes(), u32::MAX)?;
@@ -80,6 +101,7 @@ fn run(alloc: Global, kind: Loop, times: u32) -> Option<u32> {
         Loop::Count => run_machine(alloc, COUNT, times),
         Loop::Copy => run_machine(alloc, COPY, times),
         Loop::Words => Some(sum_of_words(times)),
+        Loop::Forks => read_forks(alloc, times),
     }
 }
 
@@ -108,4 +130,25 @@ fn sum_of_words(count: u32) -> u32 {
         }
     }
     sum
+}
+
+// How many instructions are read of the text of a thread that has so many.
+fn read_forks(alloc: Global, count: u32) -> Option<u32> {
+    let text = forks_text(alloc, count).ok()?;
+    if text.len() > MOST_BYTES {
+        return None;
+    }
+    let program = read0(alloc, &text).ok()?;
+    let thread = program.codes().first()?.threads().first()?;
+    Some(thread.instrs().len() as u32)
+}
+
+// A text of thread code with one thread, in which one short line stands so many times.
+fn forks_text(alloc: Global, count: u32) -> Result<Vec<u8>, AllocError> {
+    let mut text = Vec::from_slice(alloc, HEAD)?;
+    for _ in 0..count {
+        text.extend_from_slice(FORK)?;
+    }
+    text.extend_from_slice(TAIL)?;
+    Ok(text)
 }

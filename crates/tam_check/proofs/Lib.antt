@@ -8,7 +8,6 @@ mod Firsts
 mod CycleLast
 mod Keys
 mod Tabling
-mod FewBlocks
 mod Sizing
 mod Far
 mod Borders

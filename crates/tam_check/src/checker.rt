@@ -2,6 +2,7 @@
 ghost use Rattle.std.specs.Prelude.{◌≡◌, ◌==◌, ◌&&◌, ◌<◌, ◌+◌, ◌*◌, None, take, length, IfOk, IfErr, option_to_list};
 ghost use Rattle.tam_graph.specs.Graphs.{code_of};
 ghost use Rattle.tam_graph.specs.Accepted.{is_main_type, faults_at, faults_of, IsAccepted};
+ghost use Rattle.tam_check.specs.declared.checker.CheckError.TheVariants.{NoMemory as Wants_memory};
 ghost use Rattle.tam_check.specs.FirstFault.{faults_in, first_fault, IsTold};
 ghost use Rattle.tam_check.specs.Sources.{AreCycles};
 ghost use Rattle.tam_check.specs.Tables.{IsTable};
@@ -26,6 +27,14 @@ pub enum CheckError {
     NoMemory,
 }
 
+impl From<AllocError> for CheckError {
+    ghost from_gives = { λ _ error. error ≡ Wants_memory };
+
+    fn from(_error: AllocError) -> CheckError {
+        CheckError::NoMemory
+    }
+}
+
 /// Accepts a graph without a fault, or gives it back with its first fault.
 ///
 /// docs/FORMATS.md, "Which graphs are accepted".
@@ -40,7 +49,7 @@ pub fn check(alloc: Global, graph: Graph) -> Result<Accepted, (Graph, CheckError
     match first_fault(alloc, &graph) {
         Ok(None) => Ok(Accepted::of(graph)),
         Ok(Some((place, cause))) => Err((graph, CheckError::At { place, cause })),
-        Err(_) => Err((graph, CheckError::NoMemory)),
+        Err(error) => Err((graph, CheckError::from(error))),
     }
 }
 

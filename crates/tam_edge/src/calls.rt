@@ -14,7 +14,7 @@ pub fn next_count(count: u64) -> u64
 
 /// Whether the call of that number is one of those that fail.
 pub fn is_to_fail(fail: &[u32], call: u64) -> bool
-    ensures { IsTrue result ↔ Contains fail.now call }
+    ensures value { IsTrue result ↔ Contains fail.now call }
 {
     fail.iter().any(|number| u64::from(*number) == call)
 }

@@ -56,7 +56,7 @@ pub trait Files {
 
     /// Gives the next bytes of the name, at most as many as the piece holds, and 0 exactly at the end. A missing file is a fault.
     fn read(&mut self, name: &str, piece: &mut [u8]) -> Result<usize, FileError>
-        requires { 0 < length piece.old }
+        requires some { 0 < length piece.old }
         ensures room { IfOk result (λ n. n ≤ length piece.new) }
         ensures given { IfOk result (λ n. Consumes (left self.old name.now) (left self.new name.now) (take n piece.new)) }
         ensures end { IfOk result (λ n. GivesNoneAtEnd n (left self.old name.now)) }

@@ -86,7 +86,7 @@ fn read_at<R: rt::Files>(
     i: usize,
     piece: &mut [u8],
 ) -> Result<usize, FileError>
-    requires { IsFirstNamed opened.old name.now i }
+    requires named { IsFirstNamed opened.old name.now i }
     ensures room { IfOk result (λ n. n ≤ length piece.new) }
     ensures counted { CountsRead (faults_of opened.old name.now) (faults_of opened.new name.now) result }
     ensures no_memory { KeepsPiece piece.old piece.new result }
@@ -118,7 +118,7 @@ fn add<O: Drop>(
     opened: &mut Vec<(String, Opened<O>)>,
     name: &str,
 ) -> Result<usize, FileError>
-    requires { NoneNamed opened.old.items name.now }
+    requires unnamed { NoneNamed opened.old.items name.now }
     ensures found { IfOk result (IsFirstNamed opened.new.items name.now) }
     ensures kept { (other : List ℕ) → faults_of opened.new.items other ≡ faults_of opened.old.items other }
     ensures no_memory { result ≢ Err FileError.Failed }

@@ -69,7 +69,7 @@ impl Files for MemFiles {
     ghost ends = { λ memory. memory.ends };
 
     fn read(&mut self, name: &str, piece: &mut [u8]) -> Result<usize, FileError>
-        requires { 0 < length piece.old }
+        requires some { 0 < length piece.old }
         ensures room { IfOk result (λ n. n ≤ length piece.new) }
         ensures given { IfOk result (λ n. bytes_left self.old name.now ≡ take n piece.new ++ bytes_left self.new name.now) }
         ensures end { IfOk result (λ n. (n ≡ 0) ↔ (bytes_left self.old name.now ≡ [])) }
@@ -98,7 +98,7 @@ impl Files for MemFiles {
 
 // Puts the bytes of each file in reverse.
 fn reverse_all(files: &mut [(String, Vec<u8>)])
-    ensures { pairs_by reversed_items files.new ≡ pairs_by (λ bytes. bytes.items) files.old }
+    ensures reversed { pairs_by reversed_items files.new ≡ pairs_by (λ bytes. bytes.items) files.old }
 {
     for file in files.iter_mut() {
         file.1.reverse();
@@ -160,7 +160,7 @@ fn take_next(bytes: &mut Vec<u8>, piece: &mut [u8]) -> usize
 
 // Raises the count of faults of the name at that place.
 fn raise(faults: &mut [(String, u64)], name: &str, i: usize)
-    requires { IsFirstNamed faults.old name.now i }
+    requires named { IsFirstNamed faults.old name.now i }
     ensures counted { count_of faults.new name.now ≡ next_count (count_of faults.old name.now) }
     ensures later { count_of faults.old name.now ≤ count_of faults.new name.now }
     ensures others { (other : List ℕ) → other ≢ name.now → count_of faults.new other ≡ count_of faults.old other }

@@ -35,7 +35,7 @@ impl Model for MemSink {
 impl MemSink {
     /// An empty sink. Takes the memory for all its room.
     pub fn new(alloc: Global, room: u32, fail: Vec<u32>) -> Result<MemSink, NoMemory>
-        ensures { IfOk result (λ sink. sink ≡ record { bytes = []; room = room; fail = fail.items; calls = 0; faults = 0 }) }
+        ensures value { IfOk result (λ sink. sink ≡ record { bytes = []; room = room; fail = fail.items; calls = 0; faults = 0 }) }
     {
         Ok(MemSink {
             bytes: Vec::with_capacity(alloc, room as usize)?,
@@ -48,7 +48,7 @@ impl MemSink {
 
     /// The bytes taken.
     pub fn bytes(&self) -> &[u8]
-        ensures { result.now ≡ self.now.bytes }
+        ensures value { result.now ≡ self.now.bytes }
     {
         &self.bytes
     }
@@ -60,7 +60,7 @@ impl Sink for MemSink {
     ghost faults = { λ sink. sink.faults };
 
     fn put(&mut self, piece: &[u8]) -> Result<usize, Failed>
-        requires { 0 < length piece.now }
+        requires some { 0 < length piece.now }
         ensures some { IfOk result (λ n. 0 < n) }
         ensures room { IfOk result (λ n. n ≤ length piece.now) }
         ensures took { IfOk result (λ n. self.new.bytes ≡ self.old.bytes ++ take n piece.now) }

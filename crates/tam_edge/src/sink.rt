@@ -17,7 +17,7 @@ pub trait Sink {
 
     /// Takes at least one byte of the piece and at most all, from its front.
     fn put(&mut self, piece: &[u8]) -> Result<usize, Failed>
-        requires { 0 < length piece.now }
+        requires some { 0 < length piece.now }
         ensures some { IfOk result (λ n. 0 < n) }
         ensures room { IfOk result (λ n. n ≤ length piece.now) }
         ensures took { IfOk result (λ n. Appends (taken self.old) (taken self.new) (take n piece.now)) }

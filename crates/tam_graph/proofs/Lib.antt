@@ -21,3 +21,4 @@ pub mod Indexing
 pub mod Counting
 pub mod CodeNames
 pub mod FewPlaces
+pub mod FewBlocks

@@ -81,7 +81,7 @@ mod tests {
     use tam_word::Op;
 
     fn node(name: Option<Name>, kind: Kind) -> Node
-        ensures { result ≡ record { name = name; depth = 0; block = 0; kind = kind } }
+        ensures value { result ≡ record { name = name; depth = 0; block = 0; kind = kind } }
     {
         Node {
             name,

@@ -1,6 +1,6 @@
 //! Dataflow graphs: codes, their nodes, and which graphs are accepted.
 //!
-//! Over the crate of words. The reader, the printer, the checker, the firing rules and the block graphs stand on this crate.
+//! Over the crates of words and of lines and names. The reader, the printer, the checker, the firing rules and the block graphs stand on this crate.
 //! Read `specs/Graphs.antt` first, then `specs/Accepted.antt` (which graphs are accepted) and `specs/Texts.antt` (their canonical text).
 #![tactic(auto)]
 

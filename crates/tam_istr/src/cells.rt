@@ -132,9 +132,7 @@ fn fetch_cell(
     match cell {
         Cell::Filled { word, .. } => Ok(Fetched::Now(*word)),
         Cell::Empty { readers } => {
-            if readers.push(reader).is_err() {
-                return Err(FetchError::NoMemory);
-            }
+            readers.push(reader)?;
             Ok(Fetched::Deferred)
         }
     }

@@ -56,8 +56,8 @@ fn members(alloc: Global, set: &Set, count: u32) -> Result<Vec<u32>, NoMemory>
 {
     let mut places = Vec::new(alloc);
     for place in 0..count {
-        if set.has(place) && places.push(place).is_err() {
-            return Err(NoMemory);
+        if set.has(place) {
+            places.push(place)?;
         }
     }
     Ok(places)

@@ -8,7 +8,7 @@ use tam_graph::{Accepted, Code, Graph, Kind, Name, Node};
 use tam_word::Op;
 
 fn node(name: Option<Name>, depth: u8, block: u32, kind: Kind) -> Node
-    ensures { result ≡ record { name = name; depth = depth; block = block; kind = kind } }
+    ensures value { result ≡ record { name = name; depth = depth; block = block; kind = kind } }
 {
     Node {
         name,

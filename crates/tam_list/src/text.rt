@@ -9,9 +9,7 @@ use tam_word::print_number;
 pub fn push(text: &mut Vec<u8>, bytes: &[u8]) -> Result<(), NoMemory>
     ensures ok { OnOk result (text.new.items ≡ text.old.items ++ bytes.now) }
 {
-    if text.extend_from_slice(bytes).is_err() {
-        return Err(NoMemory);
-    }
+    text.extend_from_slice(bytes)?;
     Ok(())
 }
 

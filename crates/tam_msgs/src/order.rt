@@ -4,11 +4,11 @@ ghost use Rattle.std.specs.List.{slice_split, position};
 ghost use Rattle.tam_msgs.specs.Runs.{choice};
 ghost use Rattle.tam_msgs.specs.Orders.{order_of, item_of, is_joint, items_from, without_last_line_feed};
 ghost use Rattle.tam_msgs.specs.declared.item.Item.{Item};
-ghost use Rattle.tam_msgs.specs.declared.order.OrderError.TheVariants.{Bad};
+ghost use Rattle.tam_msgs.specs.declared.order.OrderError.TheVariants.{Bad, NoMemory as Wants_memory};
 
 use crate::choice::Choice;
 use crate::item::Item;
-use std::alloc::Global;
+use std::alloc::{AllocFailed, Global};
 use std::marker::Model;
 use tam_word::read_number;
 
@@ -17,6 +17,14 @@ use tam_word::read_number;
 pub enum OrderError {
     Bad { place: u32 },
     NoMemory,
+}
+
+impl<T: Drop> From<AllocFailed<T>> for OrderError {
+    ghost from_gives = { λ _ error. error ≡ Wants_memory };
+
+    fn from(_failed: AllocFailed<T>) -> OrderError {
+        OrderError::NoMemory
+    }
 }
 
 /// An order list, seen as the items that are left.
@@ -51,7 +59,7 @@ impl Order {
     ///
     /// docs/FORMATS.md, "Order lists".
     pub fn read(alloc: Global, text: &[u8]) -> Result<Order, OrderError>
-        requires { length text.now ≤ 1048576 }
+        requires short { length text.now ≤ 1048576 }
         ensures ok { IfOk result (λ order. order_of text.now ≡ Ok order) }
         ensures bad { (place : ℕ) → result ≡ Err (Bad place) → order_of text.now ≡ Err place }
     {
@@ -91,7 +99,7 @@ impl Order {
 
 // What comes next by the next item, where something is left to do.
 fn choice_by(item: Option<Item>, ready: bool, pending: u64) -> Choice
-    requires { ready ≡ false → 0 < pending }
+    requires value { ready ≡ false → 0 < pending }
     ensures value { (rest : List Item) → IfNone item (rest ≡ []) → (result, rest) ≡ choice (option_to_list item ++ rest) ready pending }
 {
     match item {
@@ -105,7 +113,7 @@ fn choice_by(item: Option<Item>, ready: bool, pending: u64) -> Choice
 }
 
 fn without_last_line_feed(text: &[u8]) -> &[u8]
-    requires { 0 < length text.now }
+    requires some { 0 < length text.now }
     ensures value { result.now ≡ without_last_line_feed text.now }
     ensures within { length result.now ≤ length text.now }
 {
@@ -120,7 +128,7 @@ fn without_last_line_feed(text: &[u8]) -> &[u8]
 // The items of the pieces between the joints.
 #[tactic(auto, using(crate::proofs::OrderPieces::piece_read))]
 fn read_items(alloc: Global, text: &[u8]) -> Result<Vec<Item>, OrderError>
-    requires { length text.now ≤ 1048576 }
+    requires short { length text.now ≤ 1048576 }
     ensures ok { IfOk result (λ v. items_from 0 (slice_split is_joint text.now) ≡ Ok v.items) }
     ensures bad { (place : ℕ) → result ≡ Err (Bad place) → items_from 0 (slice_split is_joint text.now) ≡ Err place }
 {
@@ -133,9 +141,7 @@ fn read_items(alloc: Global, text: &[u8]) -> Result<Vec<Item>, OrderError>
                 place: items.len() as u32,
             });
         };
-        if items.push(item).is_err() {
-            return Err(OrderError::NoMemory);
-        }
+        items.push(item)?;
         let Some(after) = behind else {
             return Ok(items);
         };

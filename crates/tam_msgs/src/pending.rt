@@ -45,7 +45,7 @@ impl Pending {
     ///
     /// It moves the messages before the place or those behind it, whichever are fewer: none at either end, half of them in the middle.
     pub fn take(&mut self, place: u32) -> Message
-        requires { place < length self.old.messages }
+        requires inside { place < length self.old.messages }
         ensures value { slice_get self.old.messages place ≡ Some result }
         ensures rest { self.new.messages ≡ without_place place self.old.messages }
         ensures spare { self.new.spare ≡ self.old.spare + 1 }
@@ -64,8 +64,10 @@ impl Pending {
         ensures spare { 0 < self.old.spare → self.new.spare + 1 ≡ self.old.spare }
     {
         let len = self.queue.len();
-        if len == self.queue.capacity() && self.queue.reserve_exact(len.max(16)).is_err() {
-            return Err((m, NoMemory));
+        if len == self.queue.capacity() {
+            if let Err(error) = self.queue.reserve_exact(len.max(16)) {
+                return Err((m, NoMemory::from(error)));
+            }
         }
         self.queue.push_back_reserved(m);
         Ok(())

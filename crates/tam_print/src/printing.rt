@@ -20,10 +20,7 @@ pub fn print(alloc: Global, g: &Graph) -> Result<Vec<u8>, NoMemory>
     // It reads as the same graph, where no block has more vertices than a text may give it.
     ensures reads { IfOk result (λ text. is_short g.now ≡ true → Reads text.items g.now) }
 {
-    match text_of(alloc, g) {
-        Ok(text) => Ok(text),
-        Err(_) => Err(NoMemory),
-    }
+    Ok(text_of(alloc, g)?)
 }
 
 // The text, where there is memory for it.

@@ -18,7 +18,7 @@ use std::alloc::{AllocError, Global};
 
 // Before the first line of a code: its block 0 is open.
 fn nothing_built(alloc: Global) -> Result<Building, AllocError>
-    ensures { IfOk result (λ b. built_so_far b ≡ nothing_built) }
+    ensures value { IfOk result (λ b. built_so_far b ≡ nothing_built) }
 {
     let owners = vec![in alloc; None]?;
     let within = vec![in alloc; Branch { block: 0, cond: 0 }]?;
@@ -53,7 +53,7 @@ pub fn build_body(
     names: &Known<'_, '_>,
     lines: &[Line<'_>],
 ) -> Result<Building, Refused>
-    requires { length lines.now < 2 ^ 31 }
+    requires few { length lines.now < 2 ^ 31 }
     ensures ok { IfOk result (λ b. built_so_far b ≡ built (known names.now) nothing_built (sayings_of lines.now)) }
     ensures faultless { OnOk result (faults_within (known names.now) (map numbered lines.now) ≡ []) }
     ensures refused { IfErr result (IsFirst (faults_within (known names.now) (map numbered lines.now))) }
@@ -71,7 +71,7 @@ pub fn build_body(
 
 /// The lines of the nodes.
 pub fn node_lines(alloc: Global, lines: &[Line<'_>]) -> Result<Vec<u32>, AllocError>
-    ensures { IfOk result (λ ls. ls.items ≡ node_lines (map numbered lines.now)) }
+    ensures value { IfOk result (λ ls. ls.items ≡ node_lines (map numbered lines.now)) }
 {
     let mut found = Vec::new(alloc);
     let mut rest = lines;

@@ -34,20 +34,20 @@ fn innermost(within: &[Branch]) -> Branch
 }
 
 fn leave(within: &mut Vec<Branch>)
-    ensures { reverse within.new.items ≡ outside (reverse within.old.items) }
+    ensures value { reverse within.new.items ≡ outside (reverse within.old.items) }
 {
     let _left = within.pop();
 }
 
 fn enter(within: &mut Vec<Branch>, block: u32, cond: u32) -> Result<(), AllocError>
-    ensures { OnOk result (reverse within.new.items ≡ a_branch block cond ∷ reverse within.old.items) }
+    ensures ok { OnOk result (reverse within.new.items ≡ a_branch block cond ∷ reverse within.old.items) }
 {
     within.push(Branch { block, cond })?;
     Ok(())
 }
 
 fn else_kind(number: u32, kind: Kind) -> Kind
-    ensures { result ≡ else_kind number kind }
+    ensures value { result ≡ else_kind number kind }
 {
     match kind {
         Kind::Cond { test, yes, .. } => Kind::Cond {
@@ -60,7 +60,7 @@ fn else_kind(number: u32, kind: Kind) -> Kind
 }
 
 fn with_else(number: u32, node: Node) -> Node
-    ensures { result ≡ with_else number node }
+    ensures value { result ≡ with_else number node }
 {
     Node {
         kind: else_kind(number, node.kind),
@@ -70,7 +70,7 @@ fn with_else(number: u32, node: Node) -> Node
 
 // Gives a cond its else block.
 fn set_else(nodes: &mut [Node], cond: u32, number: u32)
-    ensures { nodes.new ≡ changed_at cond (with_else number) nodes.old }
+    ensures value { nodes.new ≡ changed_at cond (with_else number) nodes.old }
 {
     let cond = cond as usize;
     if cond < nodes.len() {
@@ -80,7 +80,7 @@ fn set_else(nodes: &mut [Node], cond: u32, number: u32)
 }
 
 fn push_owner(owners: &mut Vec<Option<u32>>, cond: u32) -> Result<(), AllocError>
-    ensures { OnOk result (owners.new.items ≡ owners.old.items ++ Some cond ∷ []) }
+    ensures ok { OnOk result (owners.new.items ≡ owners.old.items ++ Some cond ∷ []) }
 {
     owners.push(Some(cond))?;
     Ok(())
@@ -92,7 +92,7 @@ fn build_node(
     names: &Known<'_, '_>,
     line: &Line<'_>,
 ) -> Result<(), AllocError>
-    requires { length built.old.owners.items < 2 ^ 32 }
+    requires few { length built.old.owners.items < 2 ^ 32 }
     ensures nodes { OnOk result (built.new.nodes.items ≡ with_node (known names.now) (built_so_far built.old) (saying line.now)) }
     ensures owners { OnOk result (built.new.owners.items ≡ built.old.owners.items) }
     ensures within { OnOk result (built.new.within.items ≡ built.old.within.items) }
@@ -119,7 +119,7 @@ fn build_cond(
 ) -> Result<(), AllocError>
     requires nodes { length built.old.nodes.items < 2 ^ 32 }
     requires owners { length built.old.owners.items < 2 ^ 32 }
-    ensures { OnOk result (built_so_far built.new ≡ built_by (known names.now) (built_so_far built.old) (saying line.now) verb.Cond) }
+    ensures ok { OnOk result (built_so_far built.new ≡ built_by (known names.now) (built_so_far built.old) (saying line.now) verb.Cond) }
 {
     let cond = built.nodes.len() as u32;
     let block = built.owners.len() as u32;
@@ -130,8 +130,8 @@ fn build_cond(
 
 // Opens the else block of the innermost cond.
 fn build_else(built: &mut Building) -> Result<(), AllocError>
-    requires { length built.old.owners.items < 2 ^ 32 }
-    ensures { OnOk result (built_so_far built.new ≡ turned_else (built_so_far built.old)) }
+    requires few { length built.old.owners.items < 2 ^ 32 }
+    ensures ok { OnOk result (built_so_far built.new ≡ turned_else (built_so_far built.old)) }
 {
     let cond = innermost(&built.within).cond;
     let block = built.owners.len() as u32;
@@ -145,7 +145,7 @@ fn build_else(built: &mut Building) -> Result<(), AllocError>
 pub fn build(built: &mut Building, names: &Known<'_, '_>, line: &Line<'_>) -> Result<(), AllocError>
     requires nodes { length built.old.nodes.items < 2 ^ 32 }
     requires owners { length built.old.owners.items < 2 ^ 32 }
-    ensures { OnOk result (built_so_far built.new ≡ built_behind (known names.now) (built_so_far built.old) (saying line.now)) }
+    ensures ok { OnOk result (built_so_far built.new ≡ built_behind (known names.now) (built_so_far built.old) (saying line.now)) }
 {
     match line.verb {
         Verb::Code => Ok(()),

@@ -15,13 +15,13 @@ use tam_word::{read_number, read_word};
 pub const MAX_PLACE: u32 = 63;
 
 fn is_name_for(role: Role, token: &[u8]) -> bool
-    ensures { result ≡ is_name_for role token.now }
+    ensures value { result ≡ is_name_for role token.now }
 {
     matches!(role, Role::Place | Role::Word) || is_name(token)
 }
 
 fn is_number_for(role: Role, token: &[u8]) -> bool
-    ensures { result ≡ is_number_for role token.now }
+    ensures value { result ≡ is_number_for role token.now }
 {
     match role {
         Role::Place => read_number(token, MAX_PLACE).is_some(),
@@ -32,7 +32,7 @@ fn is_number_for(role: Role, token: &[u8]) -> bool
 
 // Whether each name is one, where the roles ask for names.
 fn are_names(roles: &[Role], tokens: &[&[u8]]) -> bool
-    ensures { result ≡ each_token is_name_for roles.now (texts tokens.now) }
+    ensures value { result ≡ each_token is_name_for roles.now (texts tokens.now) }
 {
     let mut roles = roles;
     let mut tokens = tokens;
@@ -51,7 +51,7 @@ fn are_names(roles: &[Role], tokens: &[&[u8]]) -> bool
 
 // Whether each place and each word is one, where the roles ask for them.
 fn are_numbers(roles: &[Role], tokens: &[&[u8]]) -> bool
-    ensures { result ≡ each_token is_number_for roles.now (texts tokens.now) }
+    ensures value { result ≡ each_token is_number_for roles.now (texts tokens.now) }
 {
     let mut roles = roles;
     let mut tokens = tokens;
@@ -70,7 +70,7 @@ fn are_numbers(roles: &[Role], tokens: &[&[u8]]) -> bool
 
 // Whether the name before `=` is one, where it stands there.
 fn makes_name(said: &Said<'_, '_>) -> bool
-    ensures { result ≡ all_of is_name (names_made (seen said.now)) }
+    ensures value { result ≡ all_of is_name (names_made (seen said.now)) }
 {
     match said.name {
         None => true,
@@ -80,14 +80,14 @@ fn makes_name(said: &Said<'_, '_>) -> bool
 
 /// Whether one of the names isn't a name.
 pub fn has_bad_name(said: &Said<'_, '_>) -> bool
-    ensures { result ≡ has_bad_name (seen said.now) }
+    ensures value { result ≡ has_bad_name (seen said.now) }
 {
     !(makes_name(said) && are_names(roles_of(said.verb), said.rest))
 }
 
 /// Whether a place or a word isn't one.
 pub fn has_bad_number(said: &Said<'_, '_>) -> bool
-    ensures { result ≡ has_bad_number (seen said.now) }
+    ensures value { result ≡ has_bad_number (seen said.now) }
 {
     !are_numbers(roles_of(said.verb), said.rest)
 }

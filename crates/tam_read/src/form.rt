@@ -59,7 +59,7 @@ pub const VERBS: [Verb; 34] = [
 
 /// How the verb is written.
 pub fn verb_text(verb: Verb) -> &'static [u8]
-    ensures { result.now ≡ verb_text verb }
+    ensures value { result.now ≡ verb_text verb }
 {
     match verb {
         Verb::Param => b"param",
@@ -86,7 +86,7 @@ pub fn verb_text(verb: Verb) -> &'static [u8]
 
 /// The verb that the token writes.
 pub fn verb_called(token: &[u8]) -> Option<Verb>
-    ensures { verb_called token.now ≡ option_to_list result }
+    ensures value { verb_called token.now ≡ option_to_list result }
 {
     for verb in &VERBS {
         if token == verb_text(*verb) {
@@ -98,7 +98,7 @@ pub fn verb_called(token: &[u8]) -> Option<Verb>
 
 /// What the tokens behind the verb stand for.
 pub fn roles_of(verb: Verb) -> &'static [Role]
-    ensures { result.now ≡ roles_of verb }
+    ensures value { result.now ≡ roles_of verb }
 {
     match verb {
         Verb::Param | Verb::Enter => &[Role::Place],
@@ -119,7 +119,7 @@ pub fn roles_of(verb: Verb) -> &'static [Role]
 
 /// What the node that the verb makes can be named for.
 pub fn makes(verb: Verb) -> Option<Role>
-    ensures { result ≡ makes verb }
+    ensures value { result ≡ makes verb }
 {
     match verb {
         Verb::Call => Some(Role::Call),

@@ -8,7 +8,7 @@ use crate::form::{Role, Verb, makes};
 
 // Whether a depth stands at the end.
 pub fn has_depth(token: &[u8]) -> bool
-    ensures { result ≡ has_depth token.now }
+    ensures value { result ≡ has_depth token.now }
 {
     let len = token.len();
     len >= 2 && token[len - 2] == b':' && matches!(token[len - 1], b'1'..=b'3')
@@ -16,7 +16,7 @@ pub fn has_depth(token: &[u8]) -> bool
 
 /// A name without its depth.
 pub fn without_depth(token: &[u8]) -> &[u8]
-    ensures { result.now ≡ without_depth token.now }
+    ensures value { result.now ≡ without_depth token.now }
 {
     if has_depth(token) {
         &token[..token.len() - 2]
@@ -27,7 +27,7 @@ pub fn without_depth(token: &[u8]) -> &[u8]
 
 /// The name in the token before `=`.
 pub fn name_made(verb: Verb, token: &[u8]) -> &[u8]
-    ensures { result.now ≡ name_made verb token.now }
+    ensures value { result.now ≡ name_made verb token.now }
 {
     match makes(verb) {
         Some(Role::Value) => without_depth(token),

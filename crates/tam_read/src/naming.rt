@@ -22,7 +22,7 @@ pub struct Known<'k, 't> {
 }
 
 fn same_role(first: Role, second: Role) -> bool
-    ensures { result ≡ same_role first second }
+    ensures value { result ≡ same_role first second }
 {
     matches!(
         (first, second),
@@ -37,7 +37,7 @@ fn same_role(first: Role, second: Role) -> bool
 }
 
 fn is_made(role: Role, made: Option<Made>) -> bool
-    ensures { result ≡ is_made role made }
+    ensures value { result ≡ is_made role made }
 {
     match made {
         None => false,
@@ -47,7 +47,7 @@ fn is_made(role: Role, made: Option<Made>) -> bool
 
 // Whether the name is that of a node, where the role asks for one.
 fn is_node_found(nodes: &Table<'_>, role: Role, name: &[u8]) -> bool
-    ensures { result ≡ is_node_found (table nodes.now) role name.now }
+    ensures value { result ≡ is_node_found (table nodes.now) role name.now }
 {
     match role {
         Role::Value | Role::Call | Role::Cond => is_made(role, find(nodes, name)),
@@ -57,7 +57,7 @@ fn is_node_found(nodes: &Table<'_>, role: Role, name: &[u8]) -> bool
 
 // Whether the name is that of a code, where the role asks for one.
 fn is_code_found(codes: &Table<'_>, role: Role, name: &[u8]) -> bool
-    ensures { result ≡ is_code_found (table codes.now) role name.now }
+    ensures value { result ≡ is_code_found (table codes.now) role name.now }
 {
     match role {
         Role::Callee => is_made(role, find(codes, name)),
@@ -66,7 +66,7 @@ fn is_code_found(codes: &Table<'_>, role: Role, name: &[u8]) -> bool
 }
 
 fn are_nodes_found(nodes: &Table<'_>, roles: &[Role], names: &[&[u8]]) -> bool
-    ensures { result ≡ each_token (is_node_found (table nodes.now)) roles.now (texts names.now) }
+    ensures value { result ≡ each_token (is_node_found (table nodes.now)) roles.now (texts names.now) }
 {
     let mut roles = roles;
     let mut names = names;
@@ -84,7 +84,7 @@ fn are_nodes_found(nodes: &Table<'_>, roles: &[Role], names: &[&[u8]]) -> bool
 }
 
 fn are_codes_found(codes: &Table<'_>, roles: &[Role], names: &[&[u8]]) -> bool
-    ensures { result ≡ each_token (is_code_found (table codes.now)) roles.now (texts names.now) }
+    ensures value { result ≡ each_token (is_code_found (table codes.now)) roles.now (texts names.now) }
 {
     let mut roles = roles;
     let mut names = names;
@@ -103,7 +103,7 @@ fn are_codes_found(codes: &Table<'_>, roles: &[Role], names: &[&[u8]]) -> bool
 
 /// The first fault of a line by what its tokens name.
 pub fn names_cause(names: &Known<'_, '_>, line: &Line<'_>) -> Option<ReadCause>
-    ensures { option_to_list result ≡ take 1 (faults_known (known names.now) (saying line.now)) }
+    ensures value { option_to_list result ≡ take 1 (faults_known (known names.now) (saying line.now)) }
 {
     if !are_nodes_found(names.nodes, roles_of(line.verb), &line.rest) {
         return Some(ReadCause::UnknownName);
@@ -115,7 +115,7 @@ pub fn names_cause(names: &Known<'_, '_>, line: &Line<'_>) -> Option<ReadCause>
 }
 
 fn number_found(names: &Table<'_>, name: &[u8]) -> u32
-    ensures { result ≡ or_number (found name.now (table names.now)) }
+    ensures value { result ≡ or_number (found name.now (table names.now)) }
 {
     match find(names, name) {
         None => 0,
@@ -125,7 +125,7 @@ fn number_found(names: &Table<'_>, name: &[u8]) -> u32
 
 // The number that a token stands for.
 fn number_for(names: &Known<'_, '_>, role: Role, token: &[u8]) -> u32
-    ensures { result ≡ number_for (known names.now) role token.now }
+    ensures value { result ≡ number_for (known names.now) role token.now }
 {
     match role {
         Role::Value | Role::Call | Role::Cond => number_found(names.nodes, token),
@@ -138,7 +138,7 @@ fn number_for(names: &Known<'_, '_>, role: Role, token: &[u8]) -> u32
 
 /// The number of the first token, or 0.
 pub fn first_number(names: &Known<'_, '_>, roles: &[Role], tokens: &[&[u8]]) -> u32
-    ensures { result ≡ first_number (known names.now) roles.now (texts tokens.now) }
+    ensures value { result ≡ first_number (known names.now) roles.now (texts tokens.now) }
 {
     let [role, ..] = roles else {
         return 0;
@@ -151,7 +151,7 @@ pub fn first_number(names: &Known<'_, '_>, roles: &[Role], tokens: &[&[u8]]) -> 
 
 /// The number of the second token, or 0.
 pub fn second_number(names: &Known<'_, '_>, roles: &[Role], tokens: &[&[u8]]) -> u32
-    ensures { result ≡ second_number (known names.now) roles.now (texts tokens.now) }
+    ensures value { result ≡ second_number (known names.now) roles.now (texts tokens.now) }
 {
     let [_, roles @ ..] = roles else {
         return 0;
@@ -164,7 +164,7 @@ pub fn second_number(names: &Known<'_, '_>, roles: &[Role], tokens: &[&[u8]]) ->
 
 /// The number of the third token, or 0.
 pub fn third_number(names: &Known<'_, '_>, roles: &[Role], tokens: &[&[u8]]) -> u32
-    ensures { result ≡ third_number (known names.now) roles.now (texts tokens.now) }
+    ensures value { result ≡ third_number (known names.now) roles.now (texts tokens.now) }
 {
     let [_, roles @ ..] = roles else {
         return 0;

@@ -14,7 +14,7 @@ use tam_graph::{Kind, Name};
 
 // What the node does, by its verb and the numbers of its tokens; a cond's else block has no number yet, where `next` is the next block.
 fn kind_made(verb: Verb, x: u32, y: u32, z: u32, next: u32) -> Kind
-    ensures { result ≡ kind_made verb x y z next }
+    ensures value { result ≡ kind_made verb x y z next }
 {
     match verb {
         Verb::Param => Kind::Param { place: x },
@@ -55,7 +55,7 @@ fn kind_made(verb: Verb, x: u32, y: u32, z: u32, next: u32) -> Kind
 
 /// What the node of a line does, where `next` is the next block.
 pub fn kind_said(names: &Known<'_, '_>, next: u32, line: &Line<'_>) -> Kind
-    ensures { result ≡ kind_said (known names.now) next (saying line.now) }
+    ensures value { result ≡ kind_said (known names.now) next (saying line.now) }
 {
     let roles = roles_of(line.verb);
     let x = first_number(names, roles, &line.rest);
@@ -66,7 +66,7 @@ pub fn kind_said(names: &Known<'_, '_>, next: u32, line: &Line<'_>) -> Kind
 
 // The depth at the end of a token, or 0.
 fn depth_written(token: &[u8]) -> u8
-    ensures { result ≡ depth_written token.now }
+    ensures value { result ≡ depth_written token.now }
 {
     if has_depth(token) {
         token[token.len() - 1] - b'0'
@@ -77,7 +77,7 @@ fn depth_written(token: &[u8]) -> u8
 
 /// The depth of the node of a verb, where this stands before `=`.
 pub fn depth_made(verb: Verb, name: Option<&[u8]>) -> u8
-    ensures { result ≡ depth_made verb (texts_of name.entry) }
+    ensures value { result ≡ depth_made verb (texts_of name.entry) }
 {
     let Some(token) = name else {
         return 0;
@@ -90,7 +90,7 @@ pub fn depth_made(verb: Verb, name: Option<&[u8]>) -> u8
 
 /// The name of the node of a line.
 pub fn name_given(line: &Line<'_>) -> Option<Name>
-    ensures { result ≡ name_given (names_made (saying line.now)) }
+    ensures value { result ≡ name_given (names_made (saying line.now)) }
 {
     match line.name {
         None => None,

@@ -54,8 +54,8 @@ fn body_of<'l, 't>(lines: &'l [Line<'t>]) -> &'l [Line<'t>]
 
 // The name in the first line of a code.
 fn name_of<'t>(line: &Line<'t>) -> &'t [u8]
-    requires { is_code line.now.verb ≡ true }
-    ensures { result.now ≡ or_nameless (code_begun (saying line.now)) }
+    requires code { is_code line.now.verb ≡ true }
+    ensures value { result.now ≡ or_nameless (code_begun (saying line.now)) }
 {
     match line.rest.as_slice() {
         [name, ..] => name,
@@ -98,7 +98,7 @@ pub fn parts_of<'t>(
     codes: &Table<'t>,
     lines: &[Line<'t>],
 ) -> Result<Vec<Part<'t>>, Refused>
-    requires { length lines.now < 2 ^ 31 }
+    requires few { length lines.now < 2 ^ 31 }
     ensures ok { IfOk result (λ ps. map part ps.items ≡ map (part_made (table codes.now)) (pieces (map numbered lines.now))) }
     ensures faultless { OnOk result (faults_of_pieces (table codes.now) (pieces (map numbered lines.now)) ≡ []) }
     ensures refused { IfErr result (IsFirst (faults_of_pieces (table codes.now) (pieces (map numbered lines.now)))) }

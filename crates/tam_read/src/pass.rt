@@ -26,25 +26,25 @@ pub struct Kept<'t> {
 
 /// Whether a code begins.
 pub fn is_code(verb: Verb) -> bool
-    ensures { result ≡ is_code verb }
+    ensures value { result ≡ is_code verb }
 {
     matches!(verb, Verb::Code)
 }
 
 fn is_cond(verb: Verb) -> bool
-    ensures { result ≡ is_cond verb }
+    ensures value { result ≡ is_cond verb }
 {
     matches!(verb, Verb::Cond)
 }
 
 fn innermost(blocks: &[Block]) -> Option<Block>
-    ensures { option_to_list result ≡ take 1 (reverse blocks.now) }
+    ensures value { option_to_list result ≡ take 1 (reverse blocks.now) }
 {
     blocks.last().copied()
 }
 
 fn is_out_of_place(verb: Verb, blocks: &[Block]) -> bool
-    ensures { result ≡ is_out_of_place verb (map (λ b. b.opening) (reverse blocks.now)) }
+    ensures value { result ≡ is_out_of_place verb (map (λ b. b.opening) (reverse blocks.now)) }
 {
     let within = innermost(blocks).map(|block| block.opening);
     match verb {
@@ -57,14 +57,14 @@ fn is_out_of_place(verb: Verb, blocks: &[Block]) -> bool
 
 // Whether the name stands among others.
 fn is_kept(name: &[u8], others: &IndexSet<&[u8]>) -> bool
-    ensures { result ≡ any_of (same_bytes name.now) (texts (reverse others.now.keys)) }
+    ensures value { result ≡ any_of (same_bytes name.now) (texts (reverse others.now.keys)) }
 {
     others.contains(&name)
 }
 
 // Whether a code before has the name of the code that begins.
 fn is_code_again(said: &Said<'_, '_>, codes: &IndexSet<&[u8]>) -> bool
-    ensures { result ≡ some_shared (code_begun (seen said.now)) (texts (reverse codes.now.keys)) }
+    ensures value { result ≡ some_shared (code_begun (seen said.now)) (texts (reverse codes.now.keys)) }
 {
     if !is_code(said.verb) {
         return false;
@@ -77,7 +77,7 @@ fn is_code_again(said: &Said<'_, '_>, codes: &IndexSet<&[u8]>) -> bool
 
 // Whether a node before has the name of the node that is made.
 fn is_node_again(said: &Said<'_, '_>, names: &IndexSet<&[u8]>) -> bool
-    ensures { result ≡ some_shared (names_made (seen said.now)) (texts (reverse names.now.keys)) }
+    ensures value { result ≡ some_shared (names_made (seen said.now)) (texts (reverse names.now.keys)) }
 {
     match said.name {
         Some(token) => is_kept(name_made(said.verb, token), names),
@@ -87,14 +87,14 @@ fn is_node_again(said: &Said<'_, '_>, names: &IndexSet<&[u8]>) -> bool
 
 // Whether the node would have its block or code pass a limit.
 fn passes(limit: u32, count: u32, more: u32) -> bool
-    requires { more ≤ limit }
-    ensures { result ≡ (nat_lt 0 more && nat_lt limit (more + count)) }
+    requires within { more ≤ limit }
+    ensures value { result ≡ (nat_lt 0 more && nat_lt limit (more + count)) }
 {
     more > 0 && count > limit - more
 }
 
 fn vertices_within(blocks: &[Block]) -> u32
-    ensures { result ≡ innermost (reverse blocks.now) }
+    ensures value { result ≡ innermost (reverse blocks.now) }
 {
     match innermost(blocks) {
         Some(block) => block.vertices,
@@ -104,7 +104,7 @@ fn vertices_within(blocks: &[Block]) -> u32
 
 // The first limit that is passed.
 fn limit_passed(before: &Kept<'_>, said: &Said<'_, '_>) -> Option<Limit>
-    ensures { option_to_list result ≡ take 1 (limits_kept (kept before.now) (seen said.now)) }
+    ensures value { option_to_list result ≡ take 1 (limits_kept (kept before.now) (seen said.now)) }
 {
     let more = vertices_of(said.verb);
     if is_code(said.verb) && before.codes.len() > 255 {
@@ -124,7 +124,7 @@ fn limit_passed(before: &Kept<'_>, said: &Said<'_, '_>) -> Option<Limit>
 
 /// The first fault of a sentence, by what is kept of those before.
 pub fn first_cause(before: &Kept<'_>, said: &Said<'_, '_>) -> Option<ReadCause>
-    ensures { option_to_list result ≡ take 1 (faults_kept (kept before.now) (seen said.now)) }
+    ensures value { option_to_list result ≡ take 1 (faults_kept (kept before.now) (seen said.now)) }
 {
     if has_bad_name(said) {
         return Some(ReadCause::BadName);

@@ -50,7 +50,7 @@ impl Lines {
 }
 
 fn node_line(lines: &[u32], node: u32) -> u32
-    ensures { result ≡ or_first (slice_get lines.now node) }
+    ensures value { result ≡ or_first (slice_get lines.now node) }
 {
     match lines.get(node as usize) {
         Some(line) => *line,
@@ -72,7 +72,7 @@ fn lines_of_code(alloc: Global, part: &Part<'_>) -> Result<CodeLines, AllocError
 
 /// The lines of the places of what was read.
 pub fn lines_of(alloc: Global, parts: &[Part<'_>]) -> Result<Lines, AllocError>
-    ensures { IfOk result (λ l. l ≡ map lines_of_part parts.now) }
+    ensures value { IfOk result (λ l. l ≡ map lines_of_part parts.now) }
 {
     let mut codes = Vec::new(alloc);
     let mut rest = parts;

@@ -53,7 +53,7 @@ fn graph_of(alloc: Global, parts: &[Part<'_>]) -> Result<Graph, AllocError>
 ///
 /// docs/FORMATS.md, "Graph text".
 pub fn read(alloc: Global, text: &[u8]) -> Result<Found, Refused>
-    requires { length text.now ≤ 1048576 }
+    requires short { length text.now ≤ 1048576 }
     ensures reads { IfOk result (λ found. Reads text.now found.graph) }
     ensures lines { IfOk result (λ found. found.lines ≡ lines_in text.now) }
     ensures refused { IfErr result (IsFirst (faults text.now)) }

@@ -15,7 +15,7 @@ pub struct Said<'w, 't> {
 }
 
 fn is_sign(token: &[u8]) -> bool
-    ensures { result ≡ same_bytes token.now (codes "=") }
+    ensures value { result ≡ same_bytes token.now (codes "=") }
 {
     match token {
         [byte] => *byte == b'=',
@@ -25,7 +25,7 @@ fn is_sign(token: &[u8]) -> bool
 
 // Whether the verb has such a name before it and as many tokens behind it.
 fn has_form(name: Option<&[u8]>, rest: &[&[u8]], verb: Verb) -> bool
-    ensures { result ≡ has_form (texts_of name.entry) (texts rest.now) verb }
+    ensures value { result ≡ has_form (texts_of name.entry) (texts rest.now) verb }
 {
     makes(verb).is_some() == name.is_some() && rest.len() == roles_of(verb).len()
 }
@@ -35,7 +35,7 @@ fn said_by<'w, 't>(
     token: &[u8],
     rest: &'w [&'t [u8]],
 ) -> Option<Said<'w, 't>>
-    ensures { said_by (texts_of name.entry) token.now (texts rest.now) ≡ map seen (option_to_list result) }
+    ensures value { said_by (texts_of name.entry) token.now (texts rest.now) ≡ map seen (option_to_list result) }
 {
     let verb = verb_called(token)?;
     if !has_form(name, rest, verb) {
@@ -46,7 +46,7 @@ fn said_by<'w, 't>(
 
 // What a line says behind its name and `=`.
 fn named<'w, 't>(name: &'t [u8], tokens: &'w [&'t [u8]]) -> Option<Said<'w, 't>>
-    ensures { said_named name.now (texts tokens.now) ≡ map seen (option_to_list result) }
+    ensures value { said_named name.now (texts tokens.now) ≡ map seen (option_to_list result) }
 {
     match tokens {
         [] => None,
@@ -56,7 +56,7 @@ fn named<'w, 't>(name: &'t [u8], tokens: &'w [&'t [u8]]) -> Option<Said<'w, 't>>
 
 /// What a line of these tokens says.
 pub fn sentence_of<'w, 't>(tokens: &'w [&'t [u8]]) -> Option<Said<'w, 't>>
-    ensures { sentence_of (texts tokens.now) ≡ map seen (option_to_list result) }
+    ensures value { sentence_of (texts tokens.now) ≡ map seen (option_to_list result) }
 {
     match tokens {
         [] => None,

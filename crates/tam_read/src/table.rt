@@ -25,14 +25,14 @@ pub struct Table<'t> {
 
 /// What the name names.
 pub fn find(names: &Table<'_>, name: &[u8]) -> Option<Made>
-    ensures { result ≡ found name.now (table names.now) }
+    ensures value { result ≡ found name.now (table names.now) }
 {
     names.entries.get(&name).copied()
 }
 
 // Puts a name in, where it isn't there.
 fn put_in<'t>(names: &mut Table<'t>, name: &'t [u8], made: Made) -> Result<(), AllocError>
-    ensures { OnOk result (table names.new ≡ put_in name.now made (table names.old)) }
+    ensures ok { OnOk result (table names.new ≡ put_in name.now made (table names.old)) }
 {
     if find(names, name).is_none() {
         names.entries.insert(name, made)?;
@@ -42,14 +42,14 @@ fn put_in<'t>(names: &mut Table<'t>, name: &'t [u8], made: Made) -> Result<(), A
 
 /// Whether the line is a node's.
 pub fn is_node(verb: Verb) -> bool
-    ensures { result ≡ is_node verb }
+    ensures value { result ≡ is_node verb }
 {
     !matches!(verb, Verb::Code | Verb::Else | Verb::End)
 }
 
 // Puts in the name of the node with a number, where its line begins with one.
 fn put_node<'t>(names: &mut Table<'t>, line: &Line<'t>, number: u32) -> Result<(), AllocError>
-    ensures { OnOk result (table names.new ≡ put_all (node_entries number (saying line.now)) (table names.old)) }
+    ensures ok { OnOk result (table names.new ≡ put_all (node_entries number (saying line.now)) (table names.old)) }
 {
     let Some(role) = makes(line.verb) else {
         return Ok(());
@@ -62,7 +62,7 @@ fn put_node<'t>(names: &mut Table<'t>, line: &Line<'t>, number: u32) -> Result<(
 
 // Puts in the name of the code with a number, where the line begins one.
 fn put_code<'t>(names: &mut Table<'t>, line: &Line<'t>, number: u32) -> Result<(), AllocError>
-    ensures { OnOk result (table names.new ≡ put_all (code_entries number (saying line.now)) (table names.old)) }
+    ensures ok { OnOk result (table names.new ≡ put_all (code_entries number (saying line.now)) (table names.old)) }
 {
     if !is_code(line.verb) {
         return Ok(());
@@ -82,8 +82,8 @@ fn put_code<'t>(names: &mut Table<'t>, line: &Line<'t>, number: u32) -> Result<(
 
 /// The names of the nodes of a code's lines.
 pub fn nodes_named<'t>(alloc: Global, lines: &[Line<'t>]) -> Result<Table<'t>, AllocError>
-    requires { length lines.now < 2 ^ 32 }
-    ensures { IfOk result (λ t. table t ≡ nodes_from 0 (sayings_of lines.now) []) }
+    requires few { length lines.now < 2 ^ 32 }
+    ensures value { IfOk result (λ t. table t ≡ nodes_from 0 (sayings_of lines.now) []) }
 {
     let mut names = Table {
         entries: IndexMap::new(alloc),
@@ -102,8 +102,8 @@ pub fn nodes_named<'t>(alloc: Global, lines: &[Line<'t>]) -> Result<Table<'t>, A
 
 /// The names of the codes of a text's lines.
 pub fn codes_named<'t>(alloc: Global, lines: &[Line<'t>]) -> Result<Table<'t>, AllocError>
-    requires { length lines.now < 2 ^ 32 }
-    ensures { IfOk result (λ t. table t ≡ codes_from 0 (sayings_of lines.now) []) }
+    requires few { length lines.now < 2 ^ 32 }
+    ensures value { IfOk result (λ t. table t ≡ codes_from 0 (sayings_of lines.now) []) }
 {
     let mut names = Table {
         entries: IndexMap::new(alloc),

@@ -25,20 +25,20 @@ pub fn is_name(bytes: &[u8]) -> bool
 
 // Whether the byte is a letter or `_`.
 fn is_letter(byte: u8) -> bool
-    ensures { result ≡ is_letter byte }
+    ensures value { result ≡ is_letter byte }
 {
     matches!(byte, b'A'..=b'Z' | b'a'..=b'z' | b'_')
 }
 
 // Whether the byte may stand behind the first of a name.
 fn continues_name(byte: u8) -> bool
-    ensures { result ≡ continues_name byte }
+    ensures value { result ≡ continues_name byte }
 {
     is_letter(byte) || matches!(byte, b'0'..=b'9')
 }
 
 fn continue_name(bytes: &[u8]) -> bool
-    ensures { result ≡ all_of continues_name bytes.now }
+    ensures value { result ≡ all_of continues_name bytes.now }
 {
     let mut rest = bytes;
     while let [byte, after @ ..] = rest {

@@ -34,7 +34,7 @@ pub const OPS: [Op; 16] = [
 
 // The word as a signed number.
 fn signed(word: u32) -> i32
-    ensures { result ≡ cast_signed w32 word }
+    ensures value { result ≡ cast_signed w32 word }
 {
     word.cast_signed()
 }

@@ -209,7 +209,7 @@ fn end_cause(next: Next) -> Option<Cause0>
 ///
 /// docs/THREADS.md, "Thread code as text".
 pub fn read0(alloc: Global, text: &[u8]) -> Result<Program0, Refused0>
-    requires { length text.now ≤ 67108864 }
+    requires short { length text.now ≤ 67108864 }
     ensures reads { IfOk result (Reads0 text.now) }
     ensures faultless { OnOk result (faults text.now ≡ []) }
     ensures refused { IfErr result (IsFirst (faults text.now)) }

@@ -1,9 +1,14 @@
 use Rattle.std.proofs.Common.{subst, ◌≡◌, ◌∙◌, sym, ap, refl, ℕ, ◌<◌, ◌≤◌, ◌++◌, ◌∷◌, [], List, length, get_or, map, is_ok, not, true, false, arith}
 use Rattle.std.proofs.lemmas.List.{set-get_or, map-append}
-use Rattle.tam_istr.specs.Cells.{Empty, NotBelow, Deferred, fetch_of, with_cell, cells_used}
+use Rattle.tam_istr.specs.Cells.{Access, Arrays, Empty, NotBelow, Deferred, fetch_of, with_cell, cells_used}
 use Rattle.tam_istr.specs.declared.cell.Cell.TheVariants.{Empty as Kept_empty, Filled as Kept_filled}
 use Rattle.tam_istr.specs.declared.reader.Reader.{Reader as KeptReader}
-use Rattle.tam_istr.specs.CellAnswers.{IsDeferred, arrays_of, reader_pair}
+use Rattle.std.specs.Prelude.{Result, Ok, Err}
+use Rattle.std.specs.Result.{IsErrAnd}
+use Rattle.tam_istr.specs.declared.cells.Fetched.{Fetched}
+use Rattle.tam_istr.specs.declared.errors.FetchError.{FetchError}
+use Rattle.tam_istr.specs.declared.errors.FetchError.TheVariants.{NoMemory as No_memory}
+use Rattle.tam_istr.specs.CellAnswers.{IsDeferred, FetchAnswer, arrays_of, reader_pair}
 use Rattle.tam_istr.proofs.KeptLemmas.{kept_beyond, kept_found, kept_written, kept_unchanged, kept_sizes, kept_short}
 use Rattle.tam_istr.proofs.cells.fetch_cell.Goals as goal
 
@@ -20,18 +25,24 @@ returns-then-index-len-clause-answer c =
       ap arrays_of (set-get_or kept c.args.array array),
     )
 
-pub returns-then-is_err-clause-answer : goal.returns-then-is_err-clause-answer
-returns-then-is_err-clause-answer c =
+-- where the refusal is want of memory, what it says is the answer
+wanting : (access : Access) (old : Arrays) (new : Arrays) (r : Result Fetched FetchError) → IsErrAnd r (λ e. e ≡ No_memory)
+    → IsDeferred access × (new ≡ old) → FetchAnswer access old new r
+wanting access old new (Ok r) never both = elim never [ ]
+wanting access old new (Err e) is both = subst (λ e. FetchAnswer access old new (Err e)) (sym is) both
+
+pub returns-in_err-push-in-Empty-clause-answer : goal.returns-in_err-push-in-Empty-clause-answer
+returns-in_err-push-in-Empty-clause-answer c =
     let kept = c.args.arrays.now in
     let array = c.index-arrays-array.result in
     let inside : c.args.index < length (get_or kept c.args.array array).items =
     omega (arith, c.len.ensures, c.if-index-len.false, (get_or kept c.args.array array).ok.0) in
     let cell = Kept_empty c.in-Empty.readers in
     let is : cell ≡ get_or (get_or kept c.args.array array).items c.args.index cell = rw c.in-Empty.is at c.index_mut-cell.ensures.value in
-    let failed : is_ok c.push.result ≡ false = c.is_err.ensures.negation ∙ ap not c.if-is_err.true in
-    let same : c.push.new.self.items ≡ c.in-Empty.readers.items = rw failed at c.push.ensures.items in
+    let same : c.push.new.self.items ≡ c.in-Empty.readers.items = c.in_err-push-in-Empty.ensures.items in
     let found = kept_found kept c.args.array c.args.index array c.if-array-arrays.false cell inside is (fetch_of
-    (arrays_of kept) c.args.array c.args.index (reader_pair c.args.reader)) in (
+    (arrays_of kept) c.args.array c.args.index (reader_pair c.args.reader)) in
+    wanting _ _ _ c.from_residual.result c.from_residual.ensures.1 (
       subst IsDeferred (sym found) tt,
       kept_unchanged kept c.args.array c.args.index array c.if-array-arrays.false cell inside is (Kept_empty c.push.new.self) (ap (λ
           (l : List KeptReader). Empty (map reader_pair l)) same),
@@ -50,16 +61,15 @@ returns-in-Filled-clause-answer c =
       kept_unchanged kept c.args.array c.args.index array c.if-array-arrays.false cell inside is cell refl,
     )
 
-pub returns-else-is_err-clause-answer : goal.returns-else-is_err-clause-answer
-returns-else-is_err-clause-answer c =
+pub returns-in_ok-push-in-Empty-clause-answer : goal.returns-in_ok-push-in-Empty-clause-answer
+returns-in_ok-push-in-Empty-clause-answer c =
     let kept = c.args.arrays.now in
     let array = c.index-arrays-array.result in
     let inside : c.args.index < length (get_or kept c.args.array array).items =
     omega (arith, c.len.ensures, c.if-index-len.false, (get_or kept c.args.array array).ok.0) in
     let cell = Kept_empty c.in-Empty.readers in
     let is : cell ≡ get_or (get_or kept c.args.array array).items c.args.index cell = rw c.in-Empty.is at c.index_mut-cell.ensures.value in
-    let went : is_ok c.push.result ≡ true = c.is_err.ensures.negation ∙ ap not c.if-is_err.false in
-    let longer : c.push.new.self.items ≡ c.in-Empty.readers.items ++ c.args.reader ∷ [] = rw went at c.push.ensures.items in
+    let longer : c.push.new.self.items ≡ c.in-Empty.readers.items ++ c.args.reader ∷ [] = c.in_ok-push-in-Empty.ensures.items in
     let longer_pairs : map reader_pair c.push.new.self.items ≡ map reader_pair c.in-Empty.readers.items ++ reader_pair c.args.reader ∷ [] =
     ap (λ (l : List KeptReader). map reader_pair l) longer ∙ map-append reader_pair c.in-Empty.readers.items (c.args.reader ∷ []) in
     kept_found kept c.args.array c.args.index array c.if-array-arrays.false cell inside is (fetch_of (arrays_of kept) c.args.array c.args.index
@@ -70,26 +80,26 @@ returns-else-is_err-clause-answer c =
 pub returns-then-index-len-clause-sizes : goal.returns-then-index-len-clause-sizes
 returns-then-index-len-clause-sizes c = ap (λ (l : _). cells_used (arrays_of l)) (set-get_or c.args.arrays.now c.args.array c.index-arrays-array.result)
 
-pub returns-then-is_err-clause-sizes : goal.returns-then-is_err-clause-sizes
-returns-then-is_err-clause-sizes c = kept_sizes c.args.arrays.now c.args.array c.args.index c.index-arrays-array.result c.if-array-arrays.false
+pub returns-in_err-push-in-Empty-clause-sizes : goal.returns-in_err-push-in-Empty-clause-sizes
+returns-in_err-push-in-Empty-clause-sizes c = kept_sizes c.args.arrays.now c.args.array c.args.index c.index-arrays-array.result c.if-array-arrays.false
     (Kept_empty c.push.new.self)
 
 pub returns-in-Filled-clause-sizes : goal.returns-in-Filled-clause-sizes
 returns-in-Filled-clause-sizes c = kept_sizes c.args.arrays.now c.args.array c.args.index c.index-arrays-array.result c.if-array-arrays.false
     (Kept_filled c.in-Filled.word c.in-Filled.site)
 
-pub returns-else-is_err-clause-sizes : goal.returns-else-is_err-clause-sizes
-returns-else-is_err-clause-sizes c = kept_sizes c.args.arrays.now c.args.array c.args.index c.index-arrays-array.result c.if-array-arrays.false
+pub returns-in_ok-push-in-Empty-clause-sizes : goal.returns-in_ok-push-in-Empty-clause-sizes
+returns-in_ok-push-in-Empty-clause-sizes c = kept_sizes c.args.arrays.now c.args.array c.args.index c.index-arrays-array.result c.if-array-arrays.false
     (Kept_empty c.push.new.self)
 
-pub returns-then-is_err-clause-short : goal.returns-then-is_err-clause-short
-returns-then-is_err-clause-short c = kept_short c.args.arrays.now c.args.array c.args.index c.index-arrays-array.result c.if-array-arrays.false
+pub returns-in_err-push-in-Empty-clause-short : goal.returns-in_err-push-in-Empty-clause-short
+returns-in_err-push-in-Empty-clause-short c = kept_short c.args.arrays.now c.args.array c.args.index c.index-arrays-array.result c.if-array-arrays.false
     (Kept_empty c.push.new.self) c.requires.short
 
 pub returns-in-Filled-clause-short : goal.returns-in-Filled-clause-short
 returns-in-Filled-clause-short c = kept_short c.args.arrays.now c.args.array c.args.index c.index-arrays-array.result c.if-array-arrays.false
     (Kept_filled c.in-Filled.word c.in-Filled.site) c.requires.short
 
-pub returns-else-is_err-clause-short : goal.returns-else-is_err-clause-short
-returns-else-is_err-clause-short c = kept_short c.args.arrays.now c.args.array c.args.index c.index-arrays-array.result c.if-array-arrays.false
+pub returns-in_ok-push-in-Empty-clause-short : goal.returns-in_ok-push-in-Empty-clause-short
+returns-in_ok-push-in-Empty-clause-short c = kept_short c.args.arrays.now c.args.array c.args.index c.index-arrays-array.result c.if-array-arrays.false
     (Kept_empty c.push.new.self) c.requires.short

@@ -1,5 +1,5 @@
 use Rattle.std.proofs.Common.{◌≡◌, ◌≤◌, length, ap, arith}
-use Rattle.tam_list.proofs.FewBlocks.{few-blocks}
+use Rattle.tam_graph.proofs.FewBlocks.{few-blocks}
 use Rattle.tam_list.proofs.counting.blocks_in.Goals as goal
 
 pub overflow_cast-result : goal.overflow_cast-result

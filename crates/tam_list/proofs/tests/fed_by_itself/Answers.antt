@@ -15,11 +15,11 @@ of-requires-8 c =
             c.in_ok-nodes.ensures.items,
             c.in_ok-owners.ensures.items,
             main,
-            c.node.ensures,
-            c.node-2.ensures,
-            c.node-3.ensures,
-            c.node-4.ensures,
-            c.node-5.ensures,
+            c.node.ensures.value,
+            c.node-2.ensures.value,
+            c.node-3.ensures.value,
+            c.node-4.ensures.value,
+            c.node-5.ensures.value,
           )
           (fed_by_itself-accepted _ _ _ _);
     }

@@ -25,7 +25,7 @@ too_long (w ∷ v ∷ []) h = absurd (omega arith)
 too_long (w ∷ v ∷ u ∷ ws) h = nor (same_bytes w.now (codes "dg")) (same_bytes v.now (codes "1"))
 
 pub returns-in_default : goal.returns-in_default
-returns-in_default c = too_short c.args.words.now (omega arith)
+returns-in_default c = record { value = too_short c.args.words.now (omega arith) }
 
 pub returns-in_default-2 : goal.returns-in_default-2
-returns-in_default-2 c = too_long c.args.words.now (omega arith)
+returns-in_default-2 c = record { value = too_long c.args.words.now (omega arith) }

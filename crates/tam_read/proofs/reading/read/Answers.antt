@@ -22,7 +22,7 @@ pub returns-in_ok-lines-in-Ok-clause-lines : goal.returns-in_ok-lines-in-Ok-clau
 returns-in_ok-lines-in-Ok-clause-lines c =
     let text = c.args.text.now in
     let is : map part c.deref-in-Ok.result.now ≡ parts_in text = ap (map part) c.deref-in-Ok.ensures.value ∙ c.in-Ok.ensures.ok in
-    c.in_ok-lines-in-Ok.ensures ∙ lines-are text c.deref-in-Ok.result.now is
+    c.in_ok-lines-in-Ok.ensures.value ∙ lines-are text c.deref-in-Ok.result.now is
 
 pub returns-in_ok-lines-in-Ok-clause-complete : goal.returns-in_ok-lines-in-Ok-clause-complete
 returns-in_ok-lines-in-Ok-clause-complete c =

@@ -12,4 +12,4 @@ no_sign (b ∷ []) h = absurd (omega arith)
 no_sign (b ∷ c ∷ bs) h = longer (eqb b 61)
 
 pub returns-in_default-2 : goal.returns-in_default-2
-returns-in_default-2 c = no_sign c.args.token.now c.in_default.len_at_least
+returns-in_default-2 c = record { value = no_sign c.args.token.now c.in_default.len_at_least }

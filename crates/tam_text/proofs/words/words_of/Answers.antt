@@ -6,7 +6,7 @@ use Rattle.tam_text.proofs.words.words_of.Goals as goal
 
 pub returns : goal.returns
 returns c = record {
-  value = rw (← c.without_comment.ensures) (map_from_collect _ c.collect.ensures.ran
+  value = rw (← c.without_comment.ensures.value) (map_from_collect _ c.collect.ensures.ran
       (YieldsList-from_filter _ is_some_of (YieldsList-at c.filter.ensures.source
       (YieldsList-from_slice_split _ is_blank c.without_comment.result.now c.split.ensures.rest c.split.ensures.done c.split.ensures.closure
       (λ x r q k. search (rules, tests)))) c.filter.ensures.closure (λ x r q k. search (rules, tests))));

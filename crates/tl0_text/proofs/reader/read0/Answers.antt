@@ -52,7 +52,7 @@ of-requires c =
     let all = said-at-end (said c.loop-rest.pass) (lines_of c.loop-rest.rest.now) (said_from nothing_said (lines_of c.args.text.now))
     c.loop-rest.invariant.all none in
     record {
-      limits = made-within c.args.text.now (program_said (said c.loop-rest.pass)) c.requires
+      limits = made-within c.args.text.now (program_said (said c.loop-rest.pass)) c.requires.short
           (none-at-end c.loop-rest.number (faults c.args.text.now) c.end_cause.result left c.in-None.is) (ap program_said all);
     }
 
@@ -63,7 +63,7 @@ returns-in-None-clause-reads c =
     c.loop-rest.invariant.faults none c.end_cause.ensures.value in
     let all = said-at-end (said c.loop-rest.pass) (lines_of c.loop-rest.rest.now) (said_from nothing_said (lines_of c.args.text.now))
     c.loop-rest.invariant.all none in
-    made-reads c.args.text.now c.of.result c.requires (none-at-end c.loop-rest.number (faults c.args.text.now) c.end_cause.result left c.in-None.is)
+    made-reads c.args.text.now c.of.result c.requires.short (none-at-end c.loop-rest.number (faults c.args.text.now) c.end_cause.result left c.in-None.is)
     (c.of.ensures.value ∙ ap program_said all)
 
 pub returns-in-None-clause-complete : goal.returns-in-None-clause-complete

@@ -12,7 +12,7 @@ use Rattle.tam_edge.proofs.mem_files.MemFilesFiles.read.Goals as goal
 
 pub returns-in-Some-clause-exact : goal.returns-in-Some-clause-exact
 returns-in-Some-clause-exact c =
-    let tested = rw (c.deref.ensures.value, c.next_count-call.ensures.value) at c.is_to_fail-fails.ensures in
+    let tested = rw (c.deref.ensures.value, c.next_count-call.ensures.value) at c.is_to_fail-fails.ensures.value in
     let held = rw c.deref_mut.ensures.value at c.in-Some.ensures.some.1 in
     let back = lent_back c.self.inside.files _ c.give_unless.new.files c.deref_mut.ensures.value c.give_unless.auto.files c.deref_mut.ensures.len in
     let names = ap (map (λ (e : Entry (Vec ℕ Global)). e.0)) back ∙ c.in-Some.ensures.same_names ∙ ap (map (λ e. e.0)) c.deref_mut.ensures.value in
@@ -31,7 +31,7 @@ returns-clause-counted c = rw (← c.self.view_is) (c.in_ok-note_fault.ensures.l
 
 pub returns-clause-exact : goal.returns-clause-exact
 returns-clause-exact c =
-    let tested = rw (c.deref.ensures.value, c.next_count-call.ensures.value) at c.is_to_fail-fails.ensures in
+    let tested = rw (c.deref.ensures.value, c.next_count-call.ensures.value) at c.is_to_fail-fails.ensures.value in
     let fails = rw c.deref_mut.ensures.value at c.in_default.ensures.none.0 in
     let back = lent_back c.self.inside.files _ c.give_unless.new.files c.deref_mut.ensures.value c.give_unless.auto.files c.deref_mut.ensures.len in
     rw (← c.self.view_is) (record {
@@ -45,7 +45,7 @@ returns-clause-exact c =
 
 pub returns-in_err-note_fault-clause-exact : goal.returns-in_err-note_fault-clause-exact
 returns-in_err-note_fault-clause-exact c =
-    let tested = rw (c.deref.ensures.value, c.next_count-call.ensures.value) at c.is_to_fail-fails.ensures in
+    let tested = rw (c.deref.ensures.value, c.next_count-call.ensures.value) at c.is_to_fail-fails.ensures.value in
     let fails = rw c.deref_mut.ensures.value at c.in_default.ensures.none.0 in
     let back = lent_back c.self.inside.files _ c.give_unless.new.files c.deref_mut.ensures.value c.give_unless.auto.files c.deref_mut.ensures.len in
     let same_files = ap (pairs_by reversed_items) (back ∙ c.in_default.ensures.none.1 ∙ c.deref_mut.ensures.value) in

@@ -8,7 +8,7 @@ returns-then-count-eq0-clause-exact c = rw (← c.self.view_is) (record {
     | then-count-eq0-via-then-count-eq0 w ↦
         inr (omega (arith, c.requires, w.if-count-eq0.true, c.min-count.ensures, c.len.ensures, c.self.invariant.0))
     | then-count-eq0-via-else-count-eq0+then-is_to_fail w ↦
-        inl (rw (← c.next_count-self-inside.ensures.value, ← w.deref.ensures.value) (w.is_to_fail.ensures.0 w.if-is_to_fail.true))
+        inl (rw (← c.next_count-self-inside.ensures.value, ← w.deref.ensures.value) (w.is_to_fail.ensures.value.0 w.if-is_to_fail.true))
   ];
   now_is = rw (c.next_count-self-inside.ensures.value, c.next_count-self-inside-then-count-eq0.ensures.value) refl;
 })

@@ -1,4 +1,4 @@
--- A code within the limits has at most 2049 blocks: block 0, and two for each cond.
+-- How many blocks a code has: block 0, and two for each cond.
 use Rattle.std.proofs.Common.{◌≡◌, ℕ, zero, suc, ◌+◌, ◌*◌, ◌≤◌, List, [], ◌∷◌, ◌++◌, length, flat_map, min, arith, refl, ap, ◌∙◌}
 use Rattle.std.proofs.lemmas.List.{length-append}
 use Rattle.std.proofs.lemmas.List.Concat.{flat_map-append}
@@ -61,10 +61,12 @@ opened-node c each few x (Cond p y n) =
     let n1 = noded-append (each y) rest in
     let n2 = noded-cons (AtElse x) last in
     let n3 = noded-append (each n) (AtEnd x ∷ []) in
-    count _ _ _ _ _ _ _ _ (opened-one c (AtNode x)) (opened-one c (AtElse x)) (few y) (few n) (a ∙ ap (λ z. length (opened_by c (AtNode x)) + z) (b ∙ ap (λ z. opened c (each y) + z) (d ∙ ap (λ z. length (opened_by c (AtElse x)) + z) e)))
+    count _ _ _ _ _ _ _ _ (opened-one c (AtNode x)) (opened-one c (AtElse x)) (few y) (few n)
+    (a ∙ ap (λ z. length (opened_by c (AtNode x)) + z) (b ∙ ap (λ z. opened c (each y) + z) (d ∙ ap (λ z. length (opened_by c (AtElse x)) + z) e)))
     (m ∙ ap (λ z. 1 + z) (n1 ∙ ap (λ z. noded (each y) + z) (n2 ∙ ap (λ z. 0 + z) n3)))
   where
-    count : (here else_ oy on ny nn t u : ℕ) → here ≤ 1 → else_ ≤ 1 → oy ≤ 2 * ny → on ≤ 2 * nn → t ≡ here + (oy + (else_ + (on + 0))) → u ≡ 1 + (ny + (0 + (nn + 0))) → t ≤ 2 * u
+    count : (here else_ oy on ny nn t u : ℕ) → here ≤ 1 → else_ ≤ 1 → oy ≤ 2 * ny → on ≤ 2 * nn → t ≡ here + (oy + (else_ + (on + 0)))
+        → u ≡ 1 + (ny + (0 + (nn + 0))) → t ≤ 2 * u
     count here else_ oy on ny nn t u h e o p q r = omega arith
 opened-node c each few x k = let one = opened-one c (AtNode x) in omega (arith, one, opened-cons c (AtNode x) [])
 
@@ -85,11 +87,18 @@ opened-block : (fuel : ℕ) (c : Code) (b : ℕ) → opened c (visits fuel c b) 
 opened-block zero c b = omega arith
 opened-block (suc fuel) c b = opened-nodes c (visits fuel c) (opened-block fuel c) (nodes_in c b)
 
--- a code within the limits has at most 2049 blocks
-pub few-blocks : (codes : ℕ) (c : Code) → IsWritten codes c → length c.owners ≤ 2049
-few-blocks codes c written =
-    count _ _ _ _ _ (opened-block (length c.owners) c 0) (ap length written.nodes_in_order ∙ length-below (length c.nodes)) (few-nodes codes c written)
+-- a code has at most twice as many blocks as nodes, and one more
+pub blocks-by-nodes : (codes : ℕ) (c : Code) → IsWritten codes c → length c.owners ≤ 2 * length c.nodes + 1
+blocks-by-nodes codes c written =
+    count _ _ _ _ _ (opened-block (length c.owners) c 0) (ap length written.nodes_in_order ∙ length-below (length c.nodes))
     (ap length written.blocks_in_order ∙ length-zip (blocks_of c) c.owners) (length-below (length c.owners))
   where
-    count : (o u n z m : ℕ) → o ≤ 2 * u → u ≡ n → n ≤ 1024 → suc o ≡ min z m → z ≡ m → m ≤ 2049
-    count o u n z m h e f s p = omega arith
+    count : (o u n z m : ℕ) → o ≤ 2 * u → u ≡ n → suc o ≡ min z m → z ≡ m → m ≤ 2 * n + 1
+    count o u n z m h e s p = omega arith
+
+-- so a code within the limits has at most 2049
+pub few-blocks : (codes : ℕ) (c : Code) → IsWritten codes c → length c.owners ≤ 2049
+few-blocks codes c written =
+    let blocks = blocks-by-nodes codes c written in
+    let nodes = few-nodes codes c written in
+    omega (arith, blocks, nodes)

@@ -2,9 +2,9 @@
 
 usage: measure.py PROGRAM [PART ..]
 
-The parts of the program `tam` are `runs`, `words`, `texts`, `hostile`, `blocks` and `assembly`; without one all of these are measured. The part
-`loops` is measured on the program of that name (crates/loops). Each line of output is a row of RESULTS.md. A time is the least of several runs, memory the least address space within which the run still has its
-status and output.
+The parts of the program `tam` are `runs`, `words`, `texts`, `hostile`, `blocks`, `threads`, `made` and `assembly`; without one all of these are
+measured. The part `loops` is measured on the program of that name (crates/loops). Each line of output is a row of RESULTS.md. A time is the least of
+several runs, memory the least address space within which the run still has its status and output.
 """
 
 import os
@@ -113,6 +113,28 @@ def measure_blocks(program):
     for count in (30, 60, 120, 240):
         for mode in ("sets", "parts"):
             measure(program, mode, f"{count} codes of 128 vertices", texts.codes(count, 128), [])
+    for mode in ("sets", "parts"):
+        measure(program, mode, "a ladder of 200", texts.ladder(200), [])
+        measure(program, mode, "a wave", example("wavefront.dg"), [])
+
+
+def measure_threads(program):
+    for count in (30, 60, 120, 240):
+        measure(program, "emit-tl0", f"{count} codes of 128 vertices", texts.codes(count, 128), [])
+    measure(program, "emit-tl0", "a ladder of 200", texts.ladder(200), [])
+
+
+def measure_made(program):
+    """Rows with the shape in the place of a text."""
+    for shape, counts in (("ladder", (50, 100, 200)), ("wave", (15, 30, 60))):
+        for count in counts:
+            words = ["make", shape, str(count)]
+            runs = runs_of(program, words)
+            end = runs[0][1]
+            memory = least_memory(program, words, end)
+            seconds = min(run[0] for run in runs)
+            events = events_of(end[1])
+            print(f"| make, {shape} {count} | | {end[0]} | {events} | {seconds * 1000:.1f} | {events / seconds:.0f} | {memory} |", flush=True)
 
 
 def measure_assembly(program):
@@ -130,6 +152,14 @@ def measure_loops(program):
             memory = least_memory(program, words, end)
             seconds = min(run[0] for run in runs)
             print(f"| loops, {loop} | | {end[0]} | {times} | {seconds * 1000:.1f} | {times / seconds:.0f} | {memory} |", flush=True)
+    # texts of thread code of 16, 32 and 64 MB
+    for times in (2_396_740, 4_793_480, 9_586_960):
+        words = ["forks", str(times)]
+        runs = runs_of(program, words)
+        end = runs[0][1]
+        memory = least_memory(program, words, end)
+        seconds = min(run[0] for run in runs)
+        print(f"| loops, forks | {7 * times + 50} | {end[0]} | {times} | {seconds * 1000:.1f} | {times / seconds:.0f} | {memory} |", flush=True)
 
 
 PARTS = {
@@ -139,6 +169,8 @@ PARTS = {
     "texts": measure_texts,
     "hostile": measure_hostile,
     "blocks": measure_blocks,
+    "threads": measure_threads,
+    "made": measure_made,
     "loops": measure_loops,
 }
 

@@ -94,6 +94,11 @@ def block(kind, vertices):
         lines += [f"s{n} = add a{n} a{(n + 1) % third}" for n in range(third)]
         lines += [f"result {n} s{n}" for n in range(third)]
         lines += [f"k{n} = const {n}" for n in range(vertices - 3 * third)]
+    elif kind == "a fan":
+        places = (vertices - 2) // 2
+        lines += ["x = param 0", "k = const 1"]
+        lines += [f"v{n} = add x k" for n in range(places)]
+        lines += [f"result {n} v{n}" for n in range(places)]
     elif kind == "random":
         chance = random.Random(vertices)
         params = vertices // 8
@@ -106,7 +111,7 @@ def block(kind, vertices):
     return "\n".join([*lines, "end"]) + "\n"
 
 
-BLOCKS = ["a chain", "params and results, each its own", "sums of neighbours", "random"]
+BLOCKS = ["a chain", "params and results, each its own", "sums of neighbours", "a fan", "random"]
 
 
 def codes(count, vertices):
@@ -125,6 +130,20 @@ def codes(count, vertices):
         lines += [f"result {place} {draw.choice(values[-(vertices // 2):])}" for place in range(places)]
         lines.append("end")
     return "\n".join(lines) + "\n"
+
+
+def ladder(count):
+    """A `main` that calls the first of so many codes, each of which adds its number a hundred times and calls the next."""
+    lines = ["dg 1", "code main", "x = param 0", "f = call s1", "arg f 0 x", "r = ret f 0", "result 0 r", "end"]
+    for number in range(1, count + 1):
+        lines += [f"code s{number}", "x = param 0", f"k = const {number}", "a1 = add x k"]
+        lines += [f"a{place} = add a{place - 1} k" for place in range(2, 101)]
+        if number < count:
+            lines += [f"f = call s{number + 1}", "arg f 0 a100", "r = ret f 0", "result 0 r", "end"]
+        else:
+            lines += ["result 0 a100", "end"]
+    return "\n".join(lines) + "\n"
+
 
 def assembly(size):
     """An assembly text of about that many bytes: instructions of every form, and a label for every eighth."""

@@ -7,7 +7,7 @@ A library that is loaded before the C library counts the calls of malloc and rea
 given number; or it lets each read or write have a few bytes only. What has to come of it, by docs/FORMATS.md, "Command line":
 
 - A refused allocation: the answer of the run without a failure, or status 11 and the line `no memory`, before which lines of first
-  results of that run may stand; nothing at all where the words themselves couldn't be kept.
+  results of that run may stand, in the mode make first lines; nothing at all where the words themselves couldn't be kept.
 - A refused read: status 3 and the line `read fault`.
 - A refused write: status 10 and a front of the run's text.
 - A few bytes a call: the answer of the run.
@@ -99,8 +99,11 @@ CASES = [
     ["emit-dg", "examples/wavefront.dg"],
     ["sets", "examples/feedback.dg"],
     ["parts", "examples/wavefront.dg"],
+    ["emit-tl0", "examples/branches.dg"],
     ["assemble", "ASSEMBLY"],
     ["assemble", "REFUSED"],
+    ["make", "ladder", "2"],
+    ["make", "wave", "4"],
 ]
 
 FILES = {
@@ -132,8 +135,10 @@ class Tried:
             return answer == (3, b"read fault\n")
         if kind == "write":
             return status == 10 and self.answer[1].startswith(text)
-        results = [line for line in self.answer[1].splitlines(keepends=True) if line.startswith(b"result ")]
-        fronts = [b"".join(results[:count]) + b"no memory\n" for count in range(len(results) + 1)]
+        lines = self.answer[1].splitlines(keepends=True)
+        if self.words[0] != "make":
+            lines = [line for line in lines if line.startswith(b"result ")]
+        fronts = [b"".join(lines[:count]) + b"no memory\n" for count in range(len(lines) + 1)]
         return answer == self.answer or status == 11 and (text == b"" or text in fronts)
 
     def refuse(self, kind):

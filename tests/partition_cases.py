@@ -134,6 +134,16 @@ def parts_of(text):
     return "\n".join(lines) + "\n"
 
 
+def all_apart():
+    """A block of 128 vertices, each of which is a class of its own: 64 params and 64 stores, no two of which take the same three."""
+    lines = ["dg 1", "code main", "end", "code each"]
+    lines += [f"a{place}:1 = param {place}" for place in range(32)]
+    lines += [f"w{place} = param {place + 32}" for place in range(32)]
+    for first, second in ((0, 1), (5, 9)):
+        lines += [f"store a{place} w{(place + first) % 32} w{(place + second) % 32}" for place in range(32)]
+    return "\n".join(lines + ["end"]) + "\n"
+
+
 def main():
     cases = []
     for path in sorted(glob.glob(os.path.join(EXAMPLES, "*.dg"))):
@@ -141,6 +151,8 @@ def main():
             text = file.read()
         name = os.path.basename(path)
         cases.append({"says": f"the classes of {name}", "words": ["parts", "f"], "files": {"f": {"example": name}}, "stdout": parts_of(text), "status": 0})
+    text = all_apart()
+    cases.append({"says": "128 classes of one vertex each", "words": ["parts", "f"], "files": {"f": text}, "stdout": parts_of(text), "status": 0})
     print(json.dumps(cases, indent=1))
 
 

@@ -6,3 +6,8 @@ mod SizeLemmas
 mod ViewLemmas
 pub mod LiveLemmas
 mod TurnLemmas
+mod RowLemmas
+mod ChangeLemmas
+mod ShownLemmas
+mod ReadyLemmas
+mod FrameRowLemmas

@@ -1,30 +1,33 @@
 -- The storage of frames where a frame is changed, taken or given back.
-use Rattle.std.proofs.Common.{◌≡◌, ◌∙◌, sym, ap, subst, refl, ℕ, ◌+◌, ◌<◌, false, List, [], ◌∷◌, ◌++◌, length, cond, Option, Some, None, arith, inl, inr}
-use Rattle.std.specs.Prelude.{slice_get, slice_set, count_by, All}
+use Rattle.std.proofs.Common.{◌≡◌, ◌∙◌, sym, ap, subst, refl, ℕ, ◌+◌, ◌-◌, ◌<◌, ◌≤◌, true, false, List, [], ◌∷◌, ◌++◌, length, cond, get_or}
+use Rattle.std.proofs.Common.{Option, Some, None, arith}
+use Rattle.std.proofs.Common.{inl, inr}
+use Rattle.std.specs.Prelude.{slice_get, slice_set, count_by}
 use Rattle.std.proofs.lemmas.Bool.{cases_eq}
-use Rattle.std.proofs.lemmas.List.{length-set, length-append, length_push}
-use Rattle.std.proofs.lemmas.Option.{slice_get_past}
+use Rattle.std.proofs.lemmas.List.{length-set, length_push, get_or-set_same}
+use Rattle.std.proofs.lemmas.Option.{slice_get_past, slice_get_within, get_or_from_slice_get}
 use Rattle.std.proofs.lemmas.List.Sums.{sum_by_push}
-use Rattle.std.proofs.lemmas.List.Elements.{All-push, All-pop}
-use Rattle.tam_frames.specs.FrameTables.{Frame, is_held, is_queued, is_live, is_some_frame, new_frame, next_number, next_number_of}
+use Rattle.tam_frames.specs.FrameTables.{Frame, no_frame, is_held, is_queued, is_live, is_some_frame, next_number, next_number_of}
 use Rattle.tam_frames.specs.StoredFrames.{IsSized}
-use Rattle.tam_frames.specs.Kept.{LiveAreSized, AreFree, Storage, IsStored, numbered}
-use Rattle.tam_frames.proofs.TableLemmas.{get-set_same, get-set_other, get-pushed, held-set}
-use Rattle.tam_frames.proofs.SizeLemmas.{sized-new, begun-is}
+use Rattle.tam_frames.specs.FrameRows.{AreSized}
+use Rattle.tam_frames.specs.Kept.{AreFree, Storage, IsStored, numbered, shown, shown_of}
+use Rattle.tam_frames.proofs.TableLemmas.{get-set_same, get-set_other, held-set}
+use Rattle.tam_frames.proofs.ShownLemmas.{length-shown, shown-live, shown-set, shown-free, shown-take, shown-push}
 use Rattle.tam_frames.proofs.QueueLemmas.{not-first, not-behind, queued-behind}
 
-module _ (slots threads : ℕ) (frames : List (Option Frame)) (f : ℕ) where
-  -- a frame that is set at a number is of the size of all
-  sized-set : (old new : Option Frame) → slice_get frames f ≡ Some old → ((h : Frame) → new ≡ Some h → IsSized slots threads h)
-      → LiveAreSized slots threads frames → LiveAreSized slots threads (slice_set frames f new)
-  sized-set old new there fits sized g h is = elim (cases_eq g f) [
-    | inl same ↦
-        let put : slice_get (slice_set frames f new) g ≡ Some new =
-        ap (λ (k : ℕ). slice_get (slice_set frames f new) k) same ∙ get-set_same frames f new old there in
-        let found : new ≡ Some h = cc in
-        fits h found
-    | inr differ ↦ sized g h (sym (get-set_other frames f g new differ) ∙ is)
-  ]
+-- a frame of that size is put among frames of that size
+sized-set : (slots threads : ℕ) (rows : List Frame) (f : ℕ) (new : Frame) → IsSized slots threads new → AreSized slots threads rows
+    → AreSized slots threads (slice_set rows f new)
+sized-set slots threads rows f new fits sized g h is = elim (cases_eq g f) [
+  | inl same ↦
+      let within : f < length rows =
+      omega (arith, same, slice_get_within (slice_set rows f new) g h is, length-set rows f new) in
+      let found : new ≡ h =
+      sym (get_or-set_same rows f new no_frame within) ∙ ap (λ (k : ℕ). get_or (slice_set rows f new) k no_frame) (sym same)
+      ∙ get_or_from_slice_get (slice_set rows f new) g h no_frame is in
+      subst (IsSized slots threads) found fits
+  | inr differ ↦ sized g h (sym (get-set_other rows f g new differ) ∙ is)
+]
 
 -- where none of the free numbers is f, they stay free whatever f has
 free-beside : (frames : List (Option Frame)) (f : ℕ) (x : Option Frame) (free : List ℕ) → is_queued free f ≡ false → AreFree frames free
@@ -47,140 +50,139 @@ live-absent frames f h (g ∷ free) there are =
     some-not-none is = cc
 
 -- the next number isn't live
-pub next-free : {s : Storage} → IsStored s → is_live (numbered s.frames s.free) (next_number (numbered s.frames s.free)) ≡ false
+pub next-free : {s : Storage} → IsStored s → is_live (numbered (shown_of s) s.free) (next_number (numbered (shown_of s) s.free)) ≡ false
 next-free {s} is = go s.free is.are_free
   where
-    go : (free : List ℕ) → AreFree s.frames free → is_some_frame (slice_get s.frames (next_number_of free (length s.frames))) ≡ false
-    go [] are = ap is_some_frame (slice_get_past s.frames (length s.frames) (omega arith))
+    go : (free : List ℕ) → AreFree (shown_of s) free → is_some_frame (slice_get (shown_of s) (next_number_of free (length (shown_of s)))) ≡ false
+    go [] are = ap is_some_frame (slice_get_past (shown_of s) (length (shown_of s)) (omega arith))
     go (f ∷ free) are = ap is_some_frame are.0
 
-module _ {s : Storage} (is : IsStored s) (f : ℕ) (h : Frame) (there : slice_get s.frames f ≡ Some (Some h)) where
+module _ {s : Storage} (is : IsStored s) where
+  -- each number has a place, and as many places are live as frames
+  pub length-places : length (shown_of s) ≡ length s.lives
+  length-places = length-shown s.lives s.rows (omega (arith, is.few, is.rows_there))
+
+  -- no more frames are live than there are
+  pub used-few : s.used ≤ s.count
+  used-few = omega (arith, is.used_counted, is.free_counted, is.few)
+
+module _ {s : Storage} (is : IsStored s) (f : ℕ) (h : Frame) (there : slice_get (shown_of s) f ≡ Some (Some h)) where
   -- the number of a live frame is no free one
   absent : is_queued s.free f ≡ false
-  absent = live-absent s.frames f h s.free there is.are_free
+  absent = live-absent (shown_of s) f h s.free there is.are_free
 
   -- storage in which frame f is changed
-  pub stored-kept : (new : Frame) → IsSized s.slots s.threads new → IsStored (record s { frames = slice_set s.frames f (Some new) })
+  pub stored-kept : (new : Frame) → IsSized s.slots s.threads new → IsStored (record s { rows = slice_set s.rows f new })
   stored-kept new fits = record {
-    live_sized = sized-set s.slots s.threads s.frames f (Some h) (Some new) there
-        (λ k same. let found : new ≡ k = cc in subst (IsSized s.slots s.threads) found fits) is.live_sized;
-    spare_sized = is.spare_sized;
-    are_free = free-beside s.frames f (Some new) s.free absent is.are_free;
-    free_counted = omega (arith, is.free_counted, count, length-set s.frames f (Some new));
-    spare_counted = omega (arith, is.spare_counted, count);
-    few = omega (arith, is.few, length-set s.frames f (Some new));
-    frames_fit = is.frames_fit;
+    sized = sized-set s.slots s.threads s.rows f new fits is.sized;
+    rows_there = length-set s.rows f new ∙ is.rows_there;
+    are_free = subst (λ (l : List (Option Frame)). AreFree l s.free) (sym shows) (free-beside (shown_of s) f (Some new) s.free absent is.are_free);
+    free_counted = omega (arith, is.free_counted, count, ap (λ (l : List (Option Frame)). count_by is_held l) shows);
+    used_counted = omega (arith, is.used_counted, count, ap (λ (l : List (Option Frame)). count_by is_held l) shows);
+    few = is.few;
+    small = is.small;
+    lives_fit = is.lives_fit;
     free_fit = is.free_fit;
-    spare_fit = is.spare_fit;
   }
     where
-      count : count_by is_held (slice_set s.frames f (Some new)) + 1 ≡ count_by is_held s.frames + 1
-      count = held-set s.frames f (Some h) (Some new) there
+      shows : shown s.lives (slice_set s.rows f new) ≡ slice_set (shown_of s) f (Some new)
+      shows = shown-set s.lives s.rows f new (shown-live s.lives s.rows f h there)
+
+      count : count_by is_held (slice_set (shown_of s) f (Some new)) + 1 ≡ count_by is_held (shown_of s) + 1
+      count = held-set (shown_of s) f (Some h) (Some new) there
 
   -- one frame less is live without it
-  less : count_by is_held (slice_set s.frames f None) + 1 ≡ count_by is_held s.frames + 0
-  less = held-set s.frames f (Some h) None there
+  less : count_by is_held (slice_set (shown_of s) f None) + 1 ≡ count_by is_held (shown_of s) + 0
+  less = held-set (shown_of s) f (Some h) None there
 
-  -- so there is room for one frame more that may come yet
-  pub room-spare : length s.spare < s.spare_room
-  room-spare = omega (arith, is.spare_counted, is.spare_fit, less)
+  -- so some frame is live
+  pub some-used : 0 < s.used
+  some-used = omega (arith, less, is.used_counted)
 
-  -- and for one free number more
+  -- and there is room for one free number more
   pub room-free : length s.free < s.free_room
   room-free = omega (arith, is.free_counted, is.few, is.free_fit, less)
 
   -- storage to which frame f was given back
-  pub stored-given : IsStored (record s { frames = slice_set s.frames f None; free = f ∷ s.free; spare = s.spare ++ h ∷ [] })
+  pub stored-given : IsStored (record s { lives = slice_set s.lives f false; free = f ∷ s.free; used = s.used - 1 })
   stored-given = record {
-    live_sized = sized-set s.slots s.threads s.frames f (Some h) None there (λ k same. absurd (none-not-some k same)) is.live_sized;
-    spare_sized = All-push (IsSized s.slots s.threads) s.spare h is.spare_sized (is.live_sized f h there);
-    are_free = (get-set_same s.frames f None (Some h) there, (absent, free-beside s.frames f None s.free absent is.are_free));
-    free_counted = omega (arith, is.free_counted, less, same_length);
-    spare_counted = omega (arith, is.spare_counted, less, length-append s.spare (h ∷ []));
-    few = omega (arith, is.few, same_length);
-    frames_fit = is.frames_fit;
+    sized = is.sized;
+    rows_there = is.rows_there;
+    are_free = subst (λ (l : List (Option Frame)). AreFree l (f ∷ s.free)) (sym shows)
+        (get-set_same (shown_of s) f None (Some h) there, (absent, free-beside (shown_of s) f None s.free absent is.are_free));
+    free_counted = omega (arith, is.free_counted, less, length-set s.lives f false, count);
+    used_counted = omega (arith, is.used_counted, less, count);
+    few = omega (arith, is.few, length-set s.lives f false);
+    small = is.small;
+    lives_fit = is.lives_fit;
     free_fit = is.free_fit;
-    spare_fit = is.spare_fit;
   }
     where
-      same_length : length (slice_set s.frames f None) ≡ length s.frames
-      same_length = length-set s.frames f None
+      shows : shown (slice_set s.lives f false) s.rows ≡ slice_set (shown_of s) f None
+      shows = shown-free s.lives s.rows f
 
-      none-not-some : (k : Frame) → None ≡ Some k → ⊥
-      none-not-some k same = cc
+      count : count_by is_held (shown (slice_set s.lives f false) s.rows) ≡ count_by is_held (slice_set (shown_of s) f None)
+      count = ap (λ (l : List (Option Frame)). count_by is_held l) shows
 
-module _ {s : Storage} (is : IsStored s) (spare : List Frame) (h : Frame) (spare_is : s.spare ≡ spare ++ h ∷ []) where
-  -- a frame that may come is of the size of all, and so are those that stay
-  popped : All (IsSized s.slots s.threads) spare × IsSized s.slots s.threads h
-  popped = All-pop (IsSized s.slots s.threads) s.spare spare (Some h) spare_is is.spare_sized
+module _ {s : Storage} (is : IsStored s) where
+  -- the first of the free numbers stands among the marks
+  pub free-within : (f : ℕ) (free : List ℕ) → s.free ≡ f ∷ free → f < length s.lives
+  free-within f free free_is =
+      let are : AreFree (shown_of s) (f ∷ free) = subst (AreFree (shown_of s)) free_is is.are_free in
+      omega (arith, slice_get_within (shown_of s) f None are.0, length-places is)
 
-  -- it is of the size of all
-  pub sized-spare : IsSized s.slots s.threads h
-  sized-spare = popped.1
-
-  -- one less may come
-  one_less : length s.spare ≡ length spare + 1
-  one_less = ap (λ (l : List Frame). length l) spare_is ∙ length_push spare h
-
-  -- where no number is free, there is room for one number more
-  pub room-grown : s.free ≡ [] → length s.frames < s.frames_room
-  room-grown free_is =
+  -- where no number is free and fewer are live than may be, one number more is left
+  pub count-grown : s.free ≡ [] → s.used < s.count → length s.lives < s.count
+  count-grown free_is room =
       let none_free : length s.free ≡ 0 = ap (λ (l : List ℕ). length l) free_is in
-      omega (arith, is.free_counted, is.spare_counted, is.frames_fit, one_less)
+      omega (arith, is.free_counted, is.used_counted, none_free, room)
 
-  module _ (counts : List ℕ) (new : Frame) (begun : new ≡ new_frame (length h.slots) (length h.counts) counts) where
-    -- the frame that has begun is a new one
-    pub new-is : new ≡ new_frame s.slots s.threads counts
-    new-is = begun ∙ begun-is s.slots s.threads h sized-spare counts
-
-    -- of the size of all
-    fits : IsSized s.slots s.threads new
-    fits = subst (IsSized s.slots s.threads) (sym new-is) (sized-new s.slots s.threads counts)
-
-    -- storage of which it was taken, for the first of the free numbers
+  module _ (new : Frame) (fits : IsSized s.slots s.threads new) where
+    -- storage of which a frame was taken, for the first of the free numbers
     pub stored-taken : (f : ℕ) (free : List ℕ) → s.free ≡ f ∷ free
-        → IsStored (record s { frames = slice_set s.frames f (Some new); free = free; spare = spare })
+        → IsStored (record s { rows = slice_set s.rows f new; lives = slice_set s.lives f true; free = free; used = s.used + 1 })
     stored-taken f free free_is = record {
-      live_sized = sized-set s.slots s.threads s.frames f None (Some new) there
-          (λ k same. let found : new ≡ k = cc in subst (IsSized s.slots s.threads) found fits) is.live_sized;
-      spare_sized = popped.0;
-      are_free = free-beside s.frames f (Some new) free are.1.0 are.1.1;
-      free_counted = omega (arith, is.free_counted, count, length-set s.frames f (Some new), ap (λ (l : List ℕ). length l) free_is);
-      spare_counted = omega (arith, is.spare_counted, count, one_less);
-      few = omega (arith, is.few, length-set s.frames f (Some new));
-      frames_fit = is.frames_fit;
+      sized = sized-set s.slots s.threads s.rows f new fits is.sized;
+      rows_there = length-set s.rows f new ∙ is.rows_there;
+      are_free = subst (λ (l : List (Option Frame)). AreFree l free) (sym shows) (free-beside (shown_of s) f (Some new) free are.1.0 are.1.1);
+      free_counted = omega (arith, is.free_counted, taken, length-set s.lives f true, ap (λ (l : List ℕ). length l) free_is);
+      used_counted = omega (arith, is.used_counted, taken);
+      few = omega (arith, is.few, length-set s.lives f true);
+      small = is.small;
+      lives_fit = is.lives_fit;
       free_fit = is.free_fit;
-      spare_fit = is.spare_fit;
     }
       where
-        are : AreFree s.frames (f ∷ free)
-        are = subst (AreFree s.frames) free_is is.are_free
+        are : AreFree (shown_of s) (f ∷ free)
+        are = subst (AreFree (shown_of s)) free_is is.are_free
 
-        there : slice_get s.frames f ≡ Some None
-        there = are.0
+        shows : shown (slice_set s.lives f true) (slice_set s.rows f new) ≡ slice_set (shown_of s) f (Some new)
+        shows = shown-take s.lives s.rows f new
 
-        count : count_by is_held (slice_set s.frames f (Some new)) + 0 ≡ count_by is_held s.frames + 1
-        count = held-set s.frames f None (Some new) there
+        taken : count_by is_held (shown (slice_set s.lives f true) (slice_set s.rows f new)) + 0 ≡ count_by is_held (shown_of s) + 1
+        taken = ap (λ (l : List (Option Frame)). count_by is_held l + 0) shows ∙ held-set (shown_of s) f None (Some new) are.0
 
     -- storage of which it was taken, for a number that was never used
-    pub stored-grown : s.free ≡ [] → IsStored (record s { frames = s.frames ++ Some new ∷ []; free = []; spare = spare })
-    stored-grown free_is = record {
-      live_sized = λ g k there. elim (get-pushed s.frames g (Some new) (Some k) there) [
-        | inl before ↦ is.live_sized g k before
-        | inr last ↦ let found : new ≡ k = cc in subst (IsSized s.slots s.threads) found fits
-      ];
-      spare_sized = popped.0;
+    pub stored-grown : s.free ≡ [] → s.used < s.count
+        → IsStored (record s { rows = slice_set s.rows (length s.lives) new; lives = s.lives ++ true ∷ []; free = []; used = s.used + 1 })
+    stored-grown free_is room = record {
+      sized = sized-set s.slots s.threads s.rows (length s.lives) new fits is.sized;
+      rows_there = length-set s.rows (length s.lives) new ∙ is.rows_there;
       are_free = tt;
-      free_counted = omega (arith, is.free_counted, count, length_push s.frames (Some new), none_free);
-      spare_counted = omega (arith, is.spare_counted, count, one_less);
-      few = omega (arith, is.free_counted, is.spare_counted, none_free, one_less, length_push s.frames (Some new));
-      frames_fit = is.frames_fit;
+      free_counted = omega (arith, is.free_counted, taken, length_push s.lives true, none_free);
+      used_counted = omega (arith, is.used_counted, taken);
+      few = omega (arith, count-grown free_is room, length_push s.lives true);
+      small = is.small;
+      lives_fit = is.lives_fit;
       free_fit = is.free_fit;
-      spare_fit = is.spare_fit;
     }
       where
         none_free : length s.free ≡ 0
         none_free = ap (λ (l : List ℕ). length l) free_is
 
-        count : count_by is_held (s.frames ++ Some new ∷ []) ≡ count_by is_held s.frames + 1
-        count = sum_by_push (λ (o : Option Frame). cond {A = ℕ} (is_held o) 1 0) s.frames (Some new)
+        shows : shown (s.lives ++ true ∷ []) (slice_set s.rows (length s.lives) new) ≡ shown_of s ++ Some new ∷ []
+        shows = shown-push s.lives s.rows new (omega (arith, count-grown free_is room, is.rows_there))
+
+        taken : count_by is_held (shown (s.lives ++ true ∷ []) (slice_set s.rows (length s.lives) new)) ≡ count_by is_held (shown_of s) + 1
+        taken = ap (λ (l : List (Option Frame)). count_by is_held l) shows
+            ∙ sum_by_push (λ (o : Option Frame). cond {A = ℕ} (is_held o) 1 0) (shown_of s) (Some new)

@@ -1,8 +1,8 @@
 -- What contracts see of the storage of frames: what was read of it, and what a change of one frame is to them.
-use Rattle.std.proofs.Common.{◌≡◌, ◌∙◌, sym, ap, subst, refl, ℕ, zero, suc, ◌<◌, true, List, [], ◌∷◌, ◌++◌, length, get_or, Option, Some, None}
+use Rattle.std.proofs.Common.{◌≡◌, ◌∙◌, sym, ap, subst, ℕ, zero, suc, ◌<◌, true, List, [], ◌∷◌, ◌++◌, length, Option, Some, None}
 use Rattle.std.specs.Prelude.{slice_get, slice_set, slice_index}
 use Rattle.std.proofs.lemmas.List.{set-get_or, set-set}
-use Rattle.std.proofs.lemmas.Option.{slice_get_within, slice_get_read, get_or_from_slice_get}
+use Rattle.std.proofs.lemmas.Option.{slice_get_within, get_or_from_slice_get}
 use Rattle.tam_frames.specs.FrameTables.{Frame, FrameTable, frame_at, is_live, changed, count_in, spent, spent_of, new_frame, taken, given_back}
 use Rattle.tam_frames.specs.StoredFrames.{StoredFrames, with_table, with_frames, frame_spent, frame_spent_of}
 use Rattle.tam_frames.specs.Kept.{numbered}
@@ -42,16 +42,9 @@ module _ {frames : List (Option Frame)} {free : List ℕ} {count slots threads :
     live-within live = subst (λ (l : List (Option Frame)). f < length l) (sym frames_are)
         (slice_get_within s.table.frames f (Some (frame_at s.table f)) (live-there s.table f live))
 
-    -- and what was read stands there
-    pub read-there : (x : Option Frame) → is_live s.table f ≡ true → x ≡ get_or frames f x → slice_get frames f ≡ Some x
-    read-there x live read = slice_get_read frames (length frames) f x refl (live-within live) read
-
-    -- which is a frame
-    pub read-live : (x : Option Frame) → is_live s.table f ≡ true → x ≡ get_or frames f x → x ≡ Some (frame_at s.table f)
-    read-live x live read =
-        let found : Some x ≡ Some (Some (frame_at s.table f)) =
-        sym (read-there x live read) ∙ ap (λ (l : List (Option Frame)). slice_get l f) frames_are ∙ live-there s.table f live in
-        cc
+    -- and the frame stands there
+    pub live-stands : is_live s.table f ≡ true → slice_get frames f ≡ Some (Some (frame_at s.table f))
+    live-stands live = ap (λ (l : List (Option Frame)). slice_get l f) frames_are ∙ live-there s.table f live
 
     module _ (h : Frame) (there : slice_get frames f ≡ Some (Some h)) where
       -- the view with frame f changed

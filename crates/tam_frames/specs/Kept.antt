@@ -1,22 +1,9 @@
 -- What the code keeps of a frame, of its storage and of the queue, and what holds of it.
 -- The rule in words: docs/THREADS.md, "Frames".
-use Rattle.std.specs.Prelude.{ℕ, ◌≡◌, ◌+◌, ◌<◌, ◌≤◌, ◌^◌, Bool, true, false, nat_lt, List, [], ◌∷◌, Option, Some, None, slice_get, get_or, length, count_by, All}
+use Rattle.std.specs.Prelude.{ℕ, ◌≡◌, ◌+◌, ◌<◌, ◌≤◌, ◌^◌, Bool, true, false, cond, List, [], ◌∷◌, Option, Some, None, slice_get, get_or, length, count_by}
 use Rattle.tam_frames.specs.FrameTables.{Frame, FrameTable, is_held, is_live, is_queued}
-use Rattle.tam_frames.specs.StoredFrames.{StoredFrames, IsSized, is_busy}
-
--- an entry count isn't used up
-abbrev pub is_left : ℕ → Bool
-is_left n = nat_lt 0 n
-
--- the list of ready threads has room for each thread that may become ready yet
-pub record HasRoom (counts ready : List ℕ) (capacity : ℕ) : Type 0 where
-  pub ready_fit : length ready + count_by is_left counts ≤ capacity
-  pub threads_fit : length counts ≤ capacity
-  pub few : length counts < 2 ^ 32
-
--- each live frame of a table is of this size
-abbrev pub LiveAreSized : ℕ → ℕ → List (Option Frame) → Type 0
-LiveAreSized slots threads frames = (f : ℕ) (h : Frame) → slice_get frames f ≡ Some (Some h) → IsSized slots threads h
+use Rattle.tam_frames.specs.StoredFrames.{StoredFrames, is_busy}
+use Rattle.tam_frames.specs.FrameRows.{AreSized}
 
 -- each free number is one of the table, no frame stands there, and none is listed twice
 abbrev pub AreFree : List (Option Frame) → List ℕ → Type 0
@@ -27,30 +14,40 @@ AreFree frames (f ∷ free) = (slice_get frames f ≡ Some None) × ((is_queued 
 abbrev pub numbered : List (Option Frame) → List ℕ → FrameTable
 numbered frames free = record { frames = frames; free = free; queue = []; current = None }
 
--- what the code keeps of frames: those that have begun, by their numbers, the free numbers, frames that may come yet, how many slots and threads each
--- has, how many there are in all, and the room of the three lists
+-- each frame at a number below that many, where it is live
+abbrev pub shown : List Bool → List Frame → List (Option Frame)
+shown [] rows = []
+shown (live ∷ lives) [] = []
+shown (live ∷ lives) (h ∷ rows) = cond live (Some h) None ∷ shown lives rows
+
+-- what the code keeps of frames: all of them, which are live, the free numbers, how many are live, how many slots and threads each has, how many there
+-- are in all, and the room of the two lists
 pub record Storage : Type 0 where
-  pub frames : List (Option Frame)
+  pub rows : List Frame
+  pub lives : List Bool
   pub free : List ℕ
-  pub spare : List Frame
+  pub used : ℕ
   pub slots : ℕ
   pub threads : ℕ
   pub count : ℕ
-  pub frames_room : ℕ
+  pub lives_room : ℕ
   pub free_room : ℕ
-  pub spare_room : ℕ
 
--- all frames are of that size; each is live or may come yet; the free numbers are those without a frame; and no list outgrows its room
+-- the frames that are live
+abbrev pub shown_of : Storage → List (Option Frame)
+shown_of s = shown s.lives s.rows
+
+-- all frames are of that size; the free numbers are those without a live frame; and no list outgrows its room
 pub record IsStored (s : Storage) : Type 0 where
-  pub live_sized : LiveAreSized s.slots s.threads s.frames
-  pub spare_sized : All (IsSized s.slots s.threads) s.spare
-  pub are_free : AreFree s.frames s.free
-  pub free_counted : count_by is_held s.frames + length s.free ≡ length s.frames
-  pub spare_counted : count_by is_held s.frames + length s.spare ≡ s.count
-  pub few : length s.frames ≤ s.count
-  pub frames_fit : s.count ≤ s.frames_room
+  pub sized : AreSized s.slots s.threads s.rows
+  pub rows_there : length s.rows ≡ s.count
+  pub are_free : AreFree (shown_of s) s.free
+  pub free_counted : count_by is_held (shown_of s) + length s.free ≡ length s.lives
+  pub used_counted : count_by is_held (shown_of s) ≡ s.used
+  pub few : length s.lives ≤ s.count
+  pub small : s.count < 2 ^ 32
+  pub lives_fit : s.count ≤ s.lives_room
   pub free_fit : s.count ≤ s.free_room
-  pub spare_fit : s.count ≤ s.spare_room
 
 -- no number is listed twice
 abbrev pub IsDistinctQueue : List ℕ → Type 0

@@ -1,10 +1,10 @@
 // The storage of frames, and their numbers.
-ghost use Rattle.std.specs.Prelude.{◌≡◌, ◌<◌, ◌≤◌, ◌↔◌, false, length, slice_get, Some, All, IfOk, OnOk, OnErr, IsErr, IsTrue, vec_capacity};
-ghost use Rattle.tam_frames.specs.FrameTables.{frame_at, is_live, live_count, with_slot, count_in, spent, spend_answer, lowered};
+ghost use Rattle.std.specs.Prelude.{◌≡◌, ◌<◌, ◌≤◌, ◌↔◌, false, length, slice_get, Some, IfOk, OnOk, OnErr, IsErr, IsTrue};
+ghost use Rattle.tam_frames.specs.FrameTables.{frame_at, is_live, live_count, slot_in, with_slot, count_in, spent, spend_answer, lowered};
 ghost use Rattle.tam_frames.specs.FrameTables.{next_number, taken, given_back};
-ghost use Rattle.tam_frames.specs.StoredFrames.{IsSized, with_table, with_frames, none_taken, is_busy, popped};
+ghost use Rattle.tam_frames.specs.StoredFrames.{with_table, with_frames, none_taken, is_busy, popped};
 
-use crate::frame::Frame;
+use crate::frame_rows::FrameRows;
 use crate::{Full, Spend};
 use std::alloc::Global;
 use std::marker::Model;
@@ -13,12 +13,14 @@ use tam_edge::NoMemory;
 /// Frames by their numbers, with the storage of those that may come yet. All the memory that it needs is taken when it is made.
 #[derive(Drop)]
 pub(crate) struct FrameStore {
-    /// None at a number that is free.
-    frames: Vec<Option<Frame>>,
+    /// All frames, also those that may come yet.
+    frames: FrameRows,
+    /// Whether a frame is live, by its number; a number that was never used has no place here.
+    lives: Vec<bool>,
     /// The free numbers, the one that was given back last behind all others.
     free: Vec<u32>,
-    /// Frames that are not live.
-    spare: Vec<Frame>,
+    /// How many frames are live.
+    used: u32,
     count: u32,
     slots: u32,
     threads: u32,
@@ -27,22 +29,22 @@ pub(crate) struct FrameStore {
 impl Model for FrameStore {
     ghost use Rattle.std.specs.Prelude.{reverse};
     ghost use Rattle.tam_frames.specs.StoredFrames.{StoredFrames};
-    ghost use Rattle.tam_frames.specs.Kept.{IsStored, numbered};
+    ghost use Rattle.tam_frames.specs.Kept.{IsStored, numbered, shown};
 
     ghost Value = { StoredFrames };
 
-    ghost view = { λ s. record { table = numbered s.frames.items (reverse s.free.items); count = s.count; slots = s.slots; threads = s.threads } };
+    ghost view = { λ s. record { table = numbered (shown s.lives.items s.frames) (reverse s.free.items); count = s.count; slots = s.slots; threads = s.threads } };
 
     ghost invariant = { λ s. IsStored (record {
-      frames = s.frames.items;
+      rows = s.frames;
+      lives = s.lives.items;
       free = reverse s.free.items;
-      spare = s.spare.items;
+      used = s.used;
       slots = s.slots;
       threads = s.threads;
       count = s.count;
-      frames_room = s.frames.cap;
+      lives_room = s.lives.cap;
       free_room = s.free.cap;
-      spare_room = s.spare.cap;
     }) };
 }
 
@@ -56,9 +58,10 @@ impl FrameStore {
         ensures value { IfOk result (λ store. store ≡ none_taken count slots threads) }
     {
         Ok(FrameStore {
-            frames: Vec::with_capacity(alloc, count as usize)?,
+            frames: FrameRows::new(alloc, count, slots, threads)?,
+            lives: Vec::with_capacity(alloc, count as usize)?,
             free: Vec::with_capacity(alloc, count as usize)?,
-            spare: new_frames(alloc, count, slots, threads)?,
+            used: 0,
             count,
             slots,
             threads,
@@ -69,48 +72,62 @@ impl FrameStore {
     pub(crate) fn used(&self) -> u32
         ensures value { result ≡ live_count self.now.table }
     {
-        self.count - self.spare.len() as u32
+        self.used
     }
 
     pub(crate) fn is_live(&self, f: u32) -> bool
         ensures value { result ≡ is_live self.now.table f }
     {
-        matches!(self.frames.get(f as usize), Some(Some(_)))
+        (f as usize) < self.lives.len() && self.lives[f as usize]
     }
 
-    pub(crate) fn frame(&self, f: u32) -> &Frame
+    pub(crate) fn get(&self, f: u32, slot: u32) -> u32
         requires live { IsTrue (is_live self.now.table f) }
-        ensures value { result.now ≡ frame_at self.now.table f }
-        ensures sized { IsSized self.now.slots self.now.threads result.now }
+        requires slot { slot < self.now.slots }
+        ensures value { result ≡ slot_in self.now.table f slot }
     {
-        match &self.frames[f as usize] {
-            Some(frame) => frame,
-            None => unreachable!(),
-        }
+        self.frames.get(f, slot)
+    }
+
+    pub(crate) fn owed(&self, f: u32) -> u32
+        requires live { IsTrue (is_live self.now.table f) }
+        ensures value { result ≡ (frame_at self.now.table f).owed }
+    {
+        self.frames.owed(f)
+    }
+
+    pub(crate) fn is_busy(&self, f: u32) -> bool
+        requires live { IsTrue (is_live self.now.table f) }
+        ensures value { result ≡ is_busy self.now.table f }
+    {
+        self.frames.is_busy(f)
     }
 
     /// The frame of a new activation with these entry counts.
     pub(crate) fn take(&mut self, counts: &[u32]) -> Result<u32, Full>
         requires few { length counts.now ≤ self.old.threads }
         ensures number { IfOk result (λ number. number ≡ next_number self.old.table) }
+        ensures numbered { IfOk result (λ number. number < self.old.count) }
         ensures live { IfOk result (λ number. IsTrue (is_live self.new.table number)) }
         ensures fresh { is_live self.old.table (next_number self.old.table) ≡ false }
         ensures ok { OnOk result (self.new ≡ with_table self.old (taken self.old.table self.old.slots self.old.threads counts.now)) }
         ensures refused { IsErr result ↔ (live_count self.old.table ≡ self.old.count) }
         ensures err { OnErr result (self.new ≡ self.old) }
     {
-        let Some(mut frame) = self.spare.pop() else {
+        if self.used == self.count {
             return Err(Full);
-        };
-        frame.begin(counts);
+        }
+        self.used += 1;
         match self.free.pop() {
             Some(number) => {
-                self.frames[number as usize] = Some(frame);
+                self.frames.begin(number, counts);
+                self.lives[number as usize] = true;
                 Ok(number)
             }
             None => {
-                let number = self.frames.len() as u32;
-                self.frames.push_reserved(Some(frame));
+                let number = self.lives.len() as u32;
+                self.frames.begin(number, counts);
+                self.lives.push_reserved(true);
                 Ok(number)
             }
         }
@@ -121,10 +138,8 @@ impl FrameStore {
         requires live { IsTrue (is_live self.old.table f) }
         ensures value { self.new ≡ with_table self.old (given_back self.old.table f) }
     {
-        let Some(frame) = self.frames[f as usize].take() else {
-            unreachable!()
-        };
-        self.spare.push_reserved(frame);
+        self.used -= 1;
+        self.lives[f as usize] = false;
         self.free.push_reserved(f);
     }
 
@@ -133,20 +148,14 @@ impl FrameStore {
         requires slot { slot < self.old.slots }
         ensures value { self.new ≡ with_table self.old (with_slot self.old.table f slot word) }
     {
-        match &mut self.frames[f as usize] {
-            Some(frame) => frame.set(slot, word),
-            None => unreachable!(),
-        }
+        self.frames.set(f, slot, word);
     }
 
     pub(crate) fn lower(&mut self, f: u32, n: u32)
         requires live { IsTrue (is_live self.old.table f) }
         ensures value { self.new ≡ with_table self.old (lowered self.old.table f n) }
     {
-        match &mut self.frames[f as usize] {
-            Some(frame) => frame.lower(n),
-            None => unreachable!(),
-        }
+        self.frames.lower(f, n);
     }
 
     /// What spending does to the frame. To the queue it does nothing.
@@ -158,10 +167,7 @@ impl FrameStore {
         ensures counted { slice_get (frame_at self.old.table f).counts thread ≡ Some (count_in self.old.table f thread) }
         ensures numbered { f < self.old.count }
     {
-        match &mut self.frames[f as usize] {
-            Some(frame) => frame.spend(thread),
-            None => unreachable!(),
-        }
+        self.frames.spend(f, thread)
     }
 
     /// The thread of the frame that became ready last.
@@ -171,25 +177,9 @@ impl FrameStore {
         ensures rest { self.new ≡ with_table self.old (popped self.old.table f) }
         ensures known { result < self.old.threads }
     {
-        match &mut self.frames[f as usize] {
-            Some(frame) => match frame.pop() {
-                Some(thread) => thread,
-                None => unreachable!(),
-            },
+        match self.frames.pop(f) {
+            Some(thread) => thread,
             None => unreachable!(),
         }
     }
-}
-
-// So many frames, none of which is live.
-fn new_frames(alloc: Global, count: u32, slots: u32, threads: u32) -> Result<Vec<Frame>, NoMemory>
-    ensures count { IfOk result (λ frames. length frames.items ≡ count) }
-    ensures fit { IfOk result (λ frames. count ≤ vec_capacity frames) }
-    ensures sized { IfOk result (λ frames. All (IsSized slots threads) frames.items) }
-{
-    let mut frames = Vec::with_capacity(alloc, count as usize)?;
-    for _ in 0..count {
-        frames.push(Frame::new(alloc, slots, threads)?)?;
-    }
-    Ok(frames)
 }

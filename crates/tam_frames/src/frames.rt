@@ -1,5 +1,5 @@
 // The frames of all activations.
-ghost use Rattle.std.specs.Prelude.{◌≡◌, ◌<◌, ◌≤◌, ◌↔◌, false, length, Some, slice_get, IfOk, IfSome, OnOk, OnErr, IsErr, IsTrue};
+ghost use Rattle.std.specs.Prelude.{◌≡◌, ◌<◌, ◌≤◌, ◌↔◌, false, length, Some, slice_get, IfOk, IfSome, IfNone, OnOk, OnErr, IsErr, IsTrue};
 ghost use Rattle.tam_frames.specs.FrameTables.{frame_at, is_live, live_count, slot_in, with_slot, count_in, spent, spend_answer, lowered};
 ghost use Rattle.tam_frames.specs.FrameTables.{next_number, taken, given_back, is_ready, next_thread, rested};
 ghost use Rattle.tam_frames.specs.StoredFrames.{with_table, none_taken, is_busy};
@@ -59,6 +59,7 @@ impl Frames {
     pub fn take(&mut self, counts: &[u32]) -> Result<u32, Full>
         requires few { length counts.now ≤ self.old.threads }
         ensures number { IfOk result (λ number. number ≡ next_number self.old.table) }
+        ensures numbered { IfOk result (λ number. number < self.old.count) }
         ensures live { IfOk result (λ number. IsTrue (is_live self.new.table number)) }
         ensures ok { OnOk result (self.new ≡ with_table self.old (taken self.old.table self.old.slots self.old.threads counts.now)) }
         ensures refused { IsErr result ↔ (live_count self.old.table ≡ self.old.count) }
@@ -83,7 +84,7 @@ impl Frames {
         requires slot { slot < self.now.slots }
         ensures value { result ≡ slot_in self.now.table f slot }
     {
-        self.store.frame(f).get(slot)
+        self.store.get(f, slot)
     }
 
     pub fn set(&mut self, f: u32, slot: u32, word: u32)
@@ -114,7 +115,7 @@ impl Frames {
         requires live { IsTrue (is_live self.now.table f) }
         ensures value { result ≡ (frame_at self.now.table f).owed }
     {
-        self.store.frame(f).owed()
+        self.store.owed(f)
     }
 
     /// The frame owes so many threads less, and never less than none.
@@ -130,7 +131,7 @@ impl Frames {
         requires live { IsTrue (is_live self.now.table f) }
         ensures value { result ≡ is_busy self.now.table f }
     {
-        self.store.frame(f).is_busy()
+        self.store.is_busy(f)
     }
 
     /// Whether a thread of any frame is ready.
@@ -138,7 +139,7 @@ impl Frames {
         ensures value { result ≡ is_ready self.now.table }
     {
         match self.turns.current() {
-            Some(f) if self.store.frame(f).is_busy() => true,
+            Some(f) if self.store.is_busy(f) => true,
             _ => self.turns.has_waiting(),
         }
     }
@@ -148,6 +149,7 @@ impl Frames {
         ensures value { result ≡ (next_thread self.old.table).0 }
         ensures after { self.new ≡ with_table self.old (next_thread self.old.table).1 }
         ensures known { IfSome result (λ next. IsTrue (is_live self.new.table next.0) × (next.1 < self.old.threads)) }
+        ensures none { IfNone result (is_ready self.old.table ≡ false) }
     {
         self.rest();
         let f = self.turns.begin()?;
@@ -160,7 +162,7 @@ impl Frames {
         ensures value { self.new ≡ with_table self.old (rested self.old.table) }
     {
         if let Some(f) = self.turns.current()
-            && !self.store.frame(f).is_busy()
+            && !self.store.is_busy(f)
         {
             self.turns.end();
         }

@@ -1,23 +1,64 @@
-use Rattle.std.proofs.Common.{◌∙◌, ◌-◌, ap, Some}
+use Rattle.std.proofs.Common.{◌-◌, refl, reverse}
 use Rattle.tam_frames.specs.FrameTables.{Frame}
+use Rattle.tam_frames.specs.FrameRows.{held_at}
+use Rattle.tam_frames.specs.Kept.{Storage}
 use Rattle.tam_frames.proofs.SizeLemmas.{sized-lowered}
-use Rattle.tam_frames.proofs.StoreLemmas.{stored-kept}
-use Rattle.tam_frames.proofs.ViewLemmas.{read-there, view-changed}
+use Rattle.tam_frames.proofs.ChangeLemmas.{row-within, sized, stored-with, view-with}
 use Rattle.tam_frames.proofs.frame_store.FrameStore.lower.Goals as goal
+
+pub lower-requires : goal.lower-requires
+lower-requires c =
+    let r = c.self.inside in
+    let st : Storage = record {
+      rows = r.frames;
+      lives = r.lives.items;
+      free = reverse r.free.items;
+      used = r.used;
+      slots = r.slots;
+      threads = r.threads;
+      count = r.count;
+      lives_room = r.lives.cap;
+      free_room = r.free.cap;
+    } in
+    let f = c.args.f in
+    record { there = row-within st c.self.invariant c.self.view_is f c.requires.live }
 
 pub invariant_of-self : goal.invariant_of-self
 invariant_of-self c =
+    let r = c.self.inside in
+    let st : Storage = record {
+      rows = r.frames;
+      lives = r.lives.items;
+      free = reverse r.free.items;
+      used = r.used;
+      slots = r.slots;
+      threads = r.threads;
+      count = r.count;
+      lives_room = r.lives.cap;
+      free_room = r.free.cap;
+    } in
     let f = c.args.f in
-    let h = c.in-Some.frame in
-    let there = read-there c.self.view_is f c.index_mut.result.now c.requires.live c.index_mut.ensures.value ∙ ap Some c.in-Some.is in
-    let sized = sized-lowered c.self.inside.slots c.self.inside.threads h (c.self.invariant.live_sized f h there) c.args.n in
-    stored-kept c.self.invariant f h there c.lower.new.self (rw c.lower.ensures.value sized)
+    let new : Frame = record (held_at r.frames f) { owed = (held_at r.frames f).owed - c.args.n } in
+    stored-with st c.self.invariant c.self.view_is f c.requires.live c.lower.new.self new c.lower.ensures.value
+    (sized-lowered r.slots r.threads (held_at r.frames f) (sized st c.self.invariant c.self.view_is f c.requires.live) c.args.n)
 
 pub returns : goal.returns
 returns c =
+    let r = c.self.inside in
+    let st : Storage = record {
+      rows = r.frames;
+      lives = r.lives.items;
+      free = reverse r.free.items;
+      used = r.used;
+      slots = r.slots;
+      threads = r.threads;
+      count = r.count;
+      lives_room = r.lives.cap;
+      free_room = r.free.cap;
+    } in
     let f = c.args.f in
-    let h = c.in-Some.frame in
-    let there = read-there c.self.view_is f c.index_mut.result.now c.requires.live c.index_mut.ensures.value ∙ ap Some c.in-Some.is in
+    let new : Frame = record (held_at r.frames f) { owed = (held_at r.frames f).owed - c.args.n } in
     record {
-      value = view-changed c.self.view_is f h there c.lower.new.self (λ (k : Frame). record k { owed = k.owed - c.args.n }) c.lower.ensures.value;
+      value = view-with st c.self.invariant c.self.view_is f c.requires.live c.lower.new.self new c.lower.ensures.value
+          (λ (h : Frame). record h { owed = h.owed - c.args.n }) refl;
     }

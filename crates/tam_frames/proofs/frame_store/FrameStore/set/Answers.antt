@@ -1,25 +1,85 @@
-use Rattle.std.proofs.Common.{◌∙◌, ap, Some}
+use Rattle.std.proofs.Common.{◌≡◌, ap, refl, reverse, arith}
 use Rattle.std.specs.Prelude.{slice_set}
 use Rattle.tam_frames.specs.FrameTables.{Frame}
+use Rattle.tam_frames.specs.FrameRows.{held_at}
+use Rattle.tam_frames.specs.Kept.{Storage}
+use Rattle.tam_frames.specs.StoredFrames.{StoredFrames}
 use Rattle.tam_frames.proofs.SizeLemmas.{sized-slot}
-use Rattle.tam_frames.proofs.StoreLemmas.{stored-kept}
-use Rattle.tam_frames.proofs.ViewLemmas.{read-there, view-changed}
+use Rattle.tam_frames.proofs.ChangeLemmas.{row-within, sized, stored-with, view-with}
 use Rattle.tam_frames.proofs.frame_store.FrameStore.set.Goals as goal
+
+pub set-requires-clause-there : goal.set-requires-clause-there
+set-requires-clause-there c =
+    let r = c.self.inside in
+    let st : Storage = record {
+      rows = r.frames;
+      lives = r.lives.items;
+      free = reverse r.free.items;
+      used = r.used;
+      slots = r.slots;
+      threads = r.threads;
+      count = r.count;
+      lives_room = r.lives.cap;
+      free_room = r.free.cap;
+    } in
+    let f = c.args.f in
+    row-within st c.self.invariant c.self.view_is f c.requires.live
+
+pub set-requires-clause-slot : goal.set-requires-clause-slot
+set-requires-clause-slot c =
+    let r = c.self.inside in
+    let st : Storage = record {
+      rows = r.frames;
+      lives = r.lives.items;
+      free = reverse r.free.items;
+      used = r.used;
+      slots = r.slots;
+      threads = r.threads;
+      count = r.count;
+      lives_room = r.lives.cap;
+      free_room = r.free.cap;
+    } in
+    let f = c.args.f in
+    let slots_are : r.slots ≡ c.args.self.now.slots = ap (λ (v : StoredFrames). v.slots) c.self.view_is in
+    let size = sized st c.self.invariant c.self.view_is f c.requires.live in
+    omega (arith, c.requires.slot, slots_are, size.slots_there)
 
 pub invariant_of-self : goal.invariant_of-self
 invariant_of-self c =
+    let r = c.self.inside in
+    let st : Storage = record {
+      rows = r.frames;
+      lives = r.lives.items;
+      free = reverse r.free.items;
+      used = r.used;
+      slots = r.slots;
+      threads = r.threads;
+      count = r.count;
+      lives_room = r.lives.cap;
+      free_room = r.free.cap;
+    } in
     let f = c.args.f in
-    let h = c.in-Some.frame in
-    let there = read-there c.self.view_is f c.index_mut.result.now c.requires.live c.index_mut.ensures.value ∙ ap Some c.in-Some.is in
-    let sized = sized-slot c.self.inside.slots c.self.inside.threads h (c.self.invariant.live_sized f h there) c.args.slot c.args.word in
-    stored-kept c.self.invariant f h there c.set.new.self (rw c.set.ensures.value sized)
+    let new : Frame = record (held_at r.frames f) { slots = slice_set (held_at r.frames f).slots c.args.slot c.args.word } in
+    stored-with st c.self.invariant c.self.view_is f c.requires.live c.set.new.self new c.set.ensures.value
+    (sized-slot r.slots r.threads (held_at r.frames f) (sized st c.self.invariant c.self.view_is f c.requires.live) c.args.slot c.args.word)
 
 pub returns : goal.returns
 returns c =
+    let r = c.self.inside in
+    let st : Storage = record {
+      rows = r.frames;
+      lives = r.lives.items;
+      free = reverse r.free.items;
+      used = r.used;
+      slots = r.slots;
+      threads = r.threads;
+      count = r.count;
+      lives_room = r.lives.cap;
+      free_room = r.free.cap;
+    } in
     let f = c.args.f in
-    let h = c.in-Some.frame in
-    let there = read-there c.self.view_is f c.index_mut.result.now c.requires.live c.index_mut.ensures.value ∙ ap Some c.in-Some.is in
+    let new : Frame = record (held_at r.frames f) { slots = slice_set (held_at r.frames f).slots c.args.slot c.args.word } in
     record {
-      value = view-changed c.self.view_is f h there c.set.new.self (λ (k : Frame). record k { slots = slice_set k.slots c.args.slot c.args.word })
-          c.set.ensures.value;
+      value = view-with st c.self.invariant c.self.view_is f c.requires.live c.set.new.self new c.set.ensures.value
+          (λ (h : Frame). record h { slots = slice_set h.slots c.args.slot c.args.word }) refl;
     }

@@ -1,82 +1,328 @@
-use Rattle.std.proofs.Common.{◌≡◌, ◌∙◌, sym, ap, ap₂, subst, arith, reverse, ◌∷◌, [], List, ℕ, length, Some, None, Option}
-use Rattle.std.specs.Prelude.{slice_get}
+use Rattle.std.proofs.Common.{◌≡◌, ◌∙◌, ◌<◌, sym, ap, ap₂, subst, ℕ, true, Bool, List, [], ◌∷◌, ◌++◌, length, reverse, Option, Some, None, arith}
+use Rattle.std.specs.Prelude.{slice_get, slice_set}
 use Rattle.std.proofs.lemmas.List.{reverse-append, nil_from_length}
-use Rattle.std.proofs.lemmas.Option.{slice_get_within}
-use Rattle.tam_frames.specs.FrameTables.{Frame, is_live, is_some_frame, next_number}
-use Rattle.tam_frames.specs.Kept.{AreFree}
+use Rattle.tam_frames.specs.FrameTables.{Frame, is_live, is_some_frame, next_number, next_number_of, new_frame}
+use Rattle.tam_frames.specs.FrameRows.{held_at}
+use Rattle.tam_frames.specs.Kept.{Storage, shown, shown_of, AreFree}
 use Rattle.tam_frames.specs.StoredFrames.{StoredFrames}
-use Rattle.tam_frames.proofs.StoreLemmas.{next-free, sized-spare, new-is, stored-taken, stored-grown}
 use Rattle.tam_frames.proofs.TableLemmas.{get-set_same, get-last}
+use Rattle.tam_frames.proofs.ShownLemmas.{shown-take, shown-push}
+use Rattle.tam_frames.proofs.StoreLemmas.{next-free, stored-taken, stored-grown, free-within, count-grown, used-few, length-places}
+use Rattle.tam_frames.proofs.ChangeLemmas.{row-sized, begun-new, begun-sized}
 use Rattle.tam_frames.proofs.ViewLemmas.{view_of, view-taken, view-grown}
 use Rattle.tam_frames.proofs.frame_store.FrameStore.take.Goals as goal
 
-pub begin-requires : goal.begin-requires
-begin-requires c =
-    let threads : c.self.inside.threads ≡ c.args.self.now.threads = ap (λ (v : StoredFrames). v.threads) c.self.view_is in
-    let sized = sized-spare c.self.invariant c.pop.new.self.items c.in-Some.frame c.in-Some.ensures.items in
-    record { few = omega (arith, c.requires.few, threads, sized.threads_there) }
+pub begin-requires-clause-there : goal.begin-requires-clause-there
+begin-requires-clause-there c =
+    let r = c.self.inside in
+    let st : Storage = record {
+      rows = r.frames;
+      lives = r.lives.items;
+      free = reverse r.free.items;
+      used = r.used;
+      slots = r.slots;
+      threads = r.threads;
+      count = r.count;
+      lives_room = r.lives.cap;
+      free_room = r.free.cap;
+    } in
+    let f : ℕ = c.in-Some.number in
+    let free : List ℕ = reverse c.pop.new.self.items in
+    let order : reverse r.free.items ≡ f ∷ free = ap reverse c.in-Some.ensures.items ∙ reverse-append c.pop.new.self.items (f ∷ []) in
+    let place = free-within c.self.invariant f free order in
+    let within : f < length r.frames = omega (arith, place, c.self.invariant.few, c.self.invariant.rows_there) in
+    within
+
+pub begin-requires-clause-few : goal.begin-requires-clause-few
+begin-requires-clause-few c =
+    let r = c.self.inside in
+    let st : Storage = record {
+      rows = r.frames;
+      lives = r.lives.items;
+      free = reverse r.free.items;
+      used = r.used;
+      slots = r.slots;
+      threads = r.threads;
+      count = r.count;
+      lives_room = r.lives.cap;
+      free_room = r.free.cap;
+    } in
+    let f : ℕ = c.in-Some.number in
+    let free : List ℕ = reverse c.pop.new.self.items in
+    let order : reverse r.free.items ≡ f ∷ free = ap reverse c.in-Some.ensures.items ∙ reverse-append c.pop.new.self.items (f ∷ []) in
+    let place = free-within c.self.invariant f free order in
+    let within : f < length r.frames = omega (arith, place, c.self.invariant.few, c.self.invariant.rows_there) in
+    let threads_are : r.threads ≡ c.args.self.now.threads = ap (λ (v : StoredFrames). v.threads) c.self.view_is in
+    let size = row-sized st c.self.invariant f within c.args.counts.now in
+    omega (arith, c.requires.few, threads_are, size.threads_there)
 
 pub index_mut-requires : goal.index_mut-requires
 index_mut-requires c =
-    let s = c.self.inside in
-    let order : reverse s.free.items ≡ c.in-Some-pop.number ∷ reverse c.pop-2.new.self.items =
-    ap reverse c.in-Some-pop.ensures.items ∙ reverse-append c.pop-2.new.self.items (c.in-Some-pop.number ∷ []) in
-    let are = subst (AreFree s.frames.items) order c.self.invariant.are_free in
-    omega (arith, slice_get_within s.frames.items c.in-Some-pop.number None are.0, s.frames.ok.0)
+    let r = c.self.inside in
+    let st : Storage = record {
+      rows = r.frames;
+      lives = r.lives.items;
+      free = reverse r.free.items;
+      used = r.used;
+      slots = r.slots;
+      threads = r.threads;
+      count = r.count;
+      lives_room = r.lives.cap;
+      free_room = r.free.cap;
+    } in
+    let f : ℕ = c.in-Some.number in
+    let free : List ℕ = reverse c.pop.new.self.items in
+    let order : reverse r.free.items ≡ f ∷ free = ap reverse c.in-Some.ensures.items ∙ reverse-append c.pop.new.self.items (f ∷ []) in
+    let place = free-within c.self.invariant f free order in
+    let within : f < length r.frames = omega (arith, place, c.self.invariant.few, c.self.invariant.rows_there) in
+    omega (arith, place, r.lives.ok.0)
 
-pub invariant_of-self-in-Some-pop : goal.invariant_of-self-in-Some-pop
-invariant_of-self-in-Some-pop c =
-    let free = c.pop-2.new.self.items in
-    let order : reverse c.self.inside.free.items ≡ c.in-Some-pop.number ∷ reverse free =
-    ap reverse c.in-Some-pop.ensures.items ∙ reverse-append free (c.in-Some-pop.number ∷ []) in
-    let taken = stored-taken c.self.invariant c.pop.new.self.items c.in-Some.frame c.in-Some.ensures.items c.args.counts.now c.begin.new.self
-    c.begin.ensures.value c.in-Some-pop.number (reverse free) order in
-    rw (c.pop.ensures.capacity, c.pop-2.ensures.capacity) taken
+pub invariant_of-self : goal.invariant_of-self
+invariant_of-self c =
+    let r = c.self.inside in
+    let st : Storage = record {
+      rows = r.frames;
+      lives = r.lives.items;
+      free = reverse r.free.items;
+      used = r.used;
+      slots = r.slots;
+      threads = r.threads;
+      count = r.count;
+      lives_room = r.lives.cap;
+      free_room = r.free.cap;
+    } in
+    let f : ℕ = c.in-Some.number in
+    let free : List ℕ = reverse c.pop.new.self.items in
+    let order : reverse r.free.items ≡ f ∷ free = ap reverse c.in-Some.ensures.items ∙ reverse-append c.pop.new.self.items (f ∷ []) in
+    let place = free-within c.self.invariant f free order in
+    let within : f < length r.frames = omega (arith, place, c.self.invariant.few, c.self.invariant.rows_there) in
+    let new : Frame = new_frame (length (held_at r.frames f).slots) (length (held_at r.frames f).counts) c.args.counts.now in
+    let taken = stored-taken c.self.invariant new (begun-sized st c.self.invariant f within c.args.counts.now) f free order in
+    rw (c.begin.ensures.value, c.pop.ensures.capacity) taken
+
+pub begin-requires-in-None-clause-few : goal.begin-requires-in-None-clause-few
+begin-requires-in-None-clause-few c =
+    let r = c.self.inside in
+    let st : Storage = record {
+      rows = r.frames;
+      lives = r.lives.items;
+      free = reverse r.free.items;
+      used = r.used;
+      slots = r.slots;
+      threads = r.threads;
+      count = r.count;
+      lives_room = r.lives.cap;
+      free_room = r.free.cap;
+    } in
+    let left = c.pop.new.self in
+    let none : reverse r.free.items ≡ [] = ap reverse (nil_from_length r.free.items (omega (arith, r.free.ok.0, c.in-None.ensures.cases))) in
+    let room : r.used < r.count = omega (arith, used-few c.self.invariant, c.if-self.false) in
+    let grown = count-grown c.self.invariant none room in
+    let f : ℕ = c.len-number.result in
+    let number_is : f ≡ length r.lives.items = c.len-number.ensures ∙ r.lives.ok.0 in
+    let within : f < length r.frames = omega (arith, number_is, grown, c.self.invariant.rows_there) in
+    let threads_are : r.threads ≡ c.args.self.now.threads = ap (λ (v : StoredFrames). v.threads) c.self.view_is in
+    let size = row-sized st c.self.invariant f within c.args.counts.now in
+    omega (arith, c.requires.few, threads_are, size.threads_there)
 
 pub invariant_of-self-in-None : goal.invariant_of-self-in-None
 invariant_of-self-in-None c =
-    let s = c.self.inside in
-    let left = c.pop-2.new.self in
-    let none : reverse s.free.items ≡ [] = ap reverse (nil_from_length s.free.items (omega (arith, s.free.ok.0, c.in-None.ensures.cases))) in
+    let r = c.self.inside in
+    let st : Storage = record {
+      rows = r.frames;
+      lives = r.lives.items;
+      free = reverse r.free.items;
+      used = r.used;
+      slots = r.slots;
+      threads = r.threads;
+      count = r.count;
+      lives_room = r.lives.cap;
+      free_room = r.free.cap;
+    } in
+    let left = c.pop.new.self in
+    let none : reverse r.free.items ≡ [] = ap reverse (nil_from_length r.free.items (omega (arith, r.free.ok.0, c.in-None.ensures.cases))) in
+    let room : r.used < r.count = omega (arith, used-few c.self.invariant, c.if-self.false) in
+    let grown = count-grown c.self.invariant none room in
+    let f : ℕ = c.len-number.result in
+    let number_is : f ≡ length r.lives.items = c.len-number.ensures ∙ r.lives.ok.0 in
+    let within : f < length r.frames = omega (arith, number_is, grown, c.self.invariant.rows_there) in
     let none_left : left.items ≡ [] = nil_from_length left.items (omega (arith, c.in-None.ensures.cases, left.ok.0)) in
-    let grown = stored-grown c.self.invariant c.pop.new.self.items c.in-Some.frame c.in-Some.ensures.items c.args.counts.now c.begin.new.self
-    c.begin.ensures.value none in
-    rw (none_left, c.push_reserved.ensures.items, c.push_reserved.ensures.capacity, c.pop.ensures.capacity, c.pop-2.ensures.capacity) grown
+    let new : Frame = new_frame (length (held_at r.frames f).slots) (length (held_at r.frames f).counts) c.args.counts.now in
+    let rows_are : c.begin-in-None.new.self ≡ slice_set r.frames (length r.lives.items) new =
+    c.begin-in-None.ensures.value ∙ ap (λ (k : ℕ). slice_set r.frames k new) number_is in
+    let stored = stored-grown c.self.invariant new (begun-sized st c.self.invariant f within c.args.counts.now) none room in
+    rw (rows_are, none_left, c.push_reserved.ensures.items, c.push_reserved.ensures.capacity, c.pop.ensures.capacity) stored
 
-pub returns-in-Some-pop-clause-live : goal.returns-in-Some-pop-clause-live
-returns-in-Some-pop-clause-live c =
-    let s = c.self.inside in
-    let order : reverse s.free.items ≡ c.in-Some-pop.number ∷ reverse c.pop-2.new.self.items =
-    ap reverse c.in-Some-pop.ensures.items ∙ reverse-append c.pop-2.new.self.items (c.in-Some-pop.number ∷ []) in
-    let are = subst (AreFree s.frames.items) order c.self.invariant.are_free in
-    ap is_some_frame (get-set_same s.frames.items c.in-Some-pop.number (Some c.begin.new.self) None are.0)
+pub returns-in-Some-clause-numbered : goal.returns-in-Some-clause-numbered
+returns-in-Some-clause-numbered c =
+    let r = c.self.inside in
+    let st : Storage = record {
+      rows = r.frames;
+      lives = r.lives.items;
+      free = reverse r.free.items;
+      used = r.used;
+      slots = r.slots;
+      threads = r.threads;
+      count = r.count;
+      lives_room = r.lives.cap;
+      free_room = r.free.cap;
+    } in
+    let f : ℕ = c.in-Some.number in
+    let free : List ℕ = reverse c.pop.new.self.items in
+    let order : reverse r.free.items ≡ f ∷ free = ap reverse c.in-Some.ensures.items ∙ reverse-append c.pop.new.self.items (f ∷ []) in
+    let place = free-within c.self.invariant f free order in
+    let within : f < length r.frames = omega (arith, place, c.self.invariant.few, c.self.invariant.rows_there) in
+    let count_is : r.count ≡ c.args.self.now.count = ap (λ (v : StoredFrames). v.count) c.self.view_is in
+    omega (arith, within, c.self.invariant.rows_there, count_is)
+
+pub returns-in-Some-clause-live : goal.returns-in-Some-clause-live
+returns-in-Some-clause-live c =
+    let r = c.self.inside in
+    let st : Storage = record {
+      rows = r.frames;
+      lives = r.lives.items;
+      free = reverse r.free.items;
+      used = r.used;
+      slots = r.slots;
+      threads = r.threads;
+      count = r.count;
+      lives_room = r.lives.cap;
+      free_room = r.free.cap;
+    } in
+    let f : ℕ = c.in-Some.number in
+    let free : List ℕ = reverse c.pop.new.self.items in
+    let order : reverse r.free.items ≡ f ∷ free = ap reverse c.in-Some.ensures.items ∙ reverse-append c.pop.new.self.items (f ∷ []) in
+    let place = free-within c.self.invariant f free order in
+    let within : f < length r.frames = omega (arith, place, c.self.invariant.few, c.self.invariant.rows_there) in
+    let new : Frame = new_frame (length (held_at r.frames f).slots) (length (held_at r.frames f).counts) c.args.counts.now in
+    let shows : shown (slice_set r.lives.items f true) c.begin.new.self ≡ slice_set (shown_of st) f (Some new) =
+    ap (λ (l : List Frame). shown (slice_set r.lives.items f true) l) c.begin.ensures.value ∙ shown-take r.lives.items r.frames f new in
+    let are : AreFree (shown_of st) (f ∷ free) = subst (AreFree (shown_of st)) order c.self.invariant.are_free in
+    ap is_some_frame (ap (λ (l : List (Option Frame)). slice_get l f) shows ∙ get-set_same (shown_of st) f (Some new) None are.0)
+
+pub returns-in-Some-clause-ok : goal.returns-in-Some-clause-ok
+returns-in-Some-clause-ok c =
+    let r = c.self.inside in
+    let st : Storage = record {
+      rows = r.frames;
+      lives = r.lives.items;
+      free = reverse r.free.items;
+      used = r.used;
+      slots = r.slots;
+      threads = r.threads;
+      count = r.count;
+      lives_room = r.lives.cap;
+      free_room = r.free.cap;
+    } in
+    let f : ℕ = c.in-Some.number in
+    let free : List ℕ = reverse c.pop.new.self.items in
+    let order : reverse r.free.items ≡ f ∷ free = ap reverse c.in-Some.ensures.items ∙ reverse-append c.pop.new.self.items (f ∷ []) in
+    let place = free-within c.self.invariant f free order in
+    let within : f < length r.frames = omega (arith, place, c.self.invariant.few, c.self.invariant.rows_there) in
+    let new : Frame = new_frame (length (held_at r.frames f).slots) (length (held_at r.frames f).counts) c.args.counts.now in
+    let shows : shown (slice_set r.lives.items f true) c.begin.new.self ≡ slice_set (shown_of st) f (Some new) =
+    ap (λ (l : List Frame). shown (slice_set r.lives.items f true) l) c.begin.ensures.value ∙ shown-take r.lives.items r.frames f new in
+    ap (λ (l : List (Option Frame)). view_of l free r.count r.slots r.threads) shows
+    ∙ view-taken c.self.view_is f free c.args.counts.now new order (begun-new st c.self.invariant f within c.args.counts.now)
+
+pub returns-in-None-clause-number : goal.returns-in-None-clause-number
+returns-in-None-clause-number c =
+    let r = c.self.inside in
+    let st : Storage = record {
+      rows = r.frames;
+      lives = r.lives.items;
+      free = reverse r.free.items;
+      used = r.used;
+      slots = r.slots;
+      threads = r.threads;
+      count = r.count;
+      lives_room = r.lives.cap;
+      free_room = r.free.cap;
+    } in
+    let left = c.pop.new.self in
+    let none : reverse r.free.items ≡ [] = ap reverse (nil_from_length r.free.items (omega (arith, r.free.ok.0, c.in-None.ensures.cases))) in
+    let room : r.used < r.count = omega (arith, used-few c.self.invariant, c.if-self.false) in
+    let grown = count-grown c.self.invariant none room in
+    let f : ℕ = c.len-number.result in
+    let number_is : f ≡ length r.lives.items = c.len-number.ensures ∙ r.lives.ok.0 in
+    let within : f < length r.frames = omega (arith, number_is, grown, c.self.invariant.rows_there) in
+    number_is ∙ sym (length-places c.self.invariant)
+    ∙ ap (λ (free : List ℕ). next_number_of free (length (shown_of st))) (sym none)
+    ∙ ap (λ (v : StoredFrames). next_number v.table) c.self.view_is
 
 pub returns-in-None-clause-live : goal.returns-in-None-clause-live
 returns-in-None-clause-live c =
-    let frames = c.self.inside.frames in
-    let number : c.len-number.result ≡ length frames.items = c.len-number.ensures ∙ frames.ok.0 in
-    let there = ap₂ (λ (l : List (Option Frame)) (i : ℕ). slice_get l i) c.push_reserved.ensures.items number in
-    ap is_some_frame (there ∙ get-last frames.items (Some c.begin.new.self))
+    let r = c.self.inside in
+    let st : Storage = record {
+      rows = r.frames;
+      lives = r.lives.items;
+      free = reverse r.free.items;
+      used = r.used;
+      slots = r.slots;
+      threads = r.threads;
+      count = r.count;
+      lives_room = r.lives.cap;
+      free_room = r.free.cap;
+    } in
+    let left = c.pop.new.self in
+    let none : reverse r.free.items ≡ [] = ap reverse (nil_from_length r.free.items (omega (arith, r.free.ok.0, c.in-None.ensures.cases))) in
+    let room : r.used < r.count = omega (arith, used-few c.self.invariant, c.if-self.false) in
+    let grown = count-grown c.self.invariant none room in
+    let f : ℕ = c.len-number.result in
+    let number_is : f ≡ length r.lives.items = c.len-number.ensures ∙ r.lives.ok.0 in
+    let within : f < length r.frames = omega (arith, number_is, grown, c.self.invariant.rows_there) in
+    let new : Frame = new_frame (length (held_at r.frames f).slots) (length (held_at r.frames f).counts) c.args.counts.now in
+    let rows_are : c.begin-in-None.new.self ≡ slice_set r.frames (length r.lives.items) new =
+    c.begin-in-None.ensures.value ∙ ap (λ (k : ℕ). slice_set r.frames k new) number_is in
+    let shows : shown c.push_reserved.new.self.items c.begin-in-None.new.self ≡ shown_of st ++ Some new ∷ [] =
+    ap₂ (λ (l : List Bool) (rows : List Frame). shown l rows) c.push_reserved.ensures.items rows_are
+    ∙ shown-push r.lives.items r.frames new (omega (arith, grown, c.self.invariant.rows_there)) in
+    ap is_some_frame (ap₂ (λ (l : List (Option Frame)) (k : ℕ). slice_get l k) shows (number_is ∙ sym (length-places c.self.invariant))
+    ∙ get-last (shown_of st) (Some new))
 
 pub returns-in-None-clause-fresh : goal.returns-in-None-clause-fresh
 returns-in-None-clause-fresh c =
+    let r = c.self.inside in
+    let st : Storage = record {
+      rows = r.frames;
+      lives = r.lives.items;
+      free = reverse r.free.items;
+      used = r.used;
+      slots = r.slots;
+      threads = r.threads;
+      count = r.count;
+      lives_room = r.lives.cap;
+      free_room = r.free.cap;
+    } in
     ap (λ (v : StoredFrames). is_live v.table (next_number v.table)) (sym c.self.view_is) ∙ next-free c.self.invariant
-
-pub returns-in-Some-pop-clause-ok : goal.returns-in-Some-pop-clause-ok
-returns-in-Some-pop-clause-ok c =
-    let free = c.pop-2.new.self.items in
-    let order : reverse c.self.inside.free.items ≡ c.in-Some-pop.number ∷ reverse free =
-    ap reverse c.in-Some-pop.ensures.items ∙ reverse-append free (c.in-Some-pop.number ∷ []) in
-    let new = new-is c.self.invariant c.pop.new.self.items c.in-Some.frame c.in-Some.ensures.items c.args.counts.now c.begin.new.self c.begin.ensures.value in
-    view-taken c.self.view_is c.in-Some-pop.number (reverse free) c.args.counts.now c.begin.new.self order new
 
 pub returns-in-None-clause-ok : goal.returns-in-None-clause-ok
 returns-in-None-clause-ok c =
-    let s = c.self.inside in
-    let left = c.pop-2.new.self in
-    let none : reverse s.free.items ≡ [] = ap reverse (nil_from_length s.free.items (omega (arith, s.free.ok.0, c.in-None.ensures.cases))) in
+    let r = c.self.inside in
+    let st : Storage = record {
+      rows = r.frames;
+      lives = r.lives.items;
+      free = reverse r.free.items;
+      used = r.used;
+      slots = r.slots;
+      threads = r.threads;
+      count = r.count;
+      lives_room = r.lives.cap;
+      free_room = r.free.cap;
+    } in
+    let left = c.pop.new.self in
+    let none : reverse r.free.items ≡ [] = ap reverse (nil_from_length r.free.items (omega (arith, r.free.ok.0, c.in-None.ensures.cases))) in
+    let room : r.used < r.count = omega (arith, used-few c.self.invariant, c.if-self.false) in
+    let grown = count-grown c.self.invariant none room in
+    let f : ℕ = c.len-number.result in
+    let number_is : f ≡ length r.lives.items = c.len-number.ensures ∙ r.lives.ok.0 in
+    let within : f < length r.frames = omega (arith, number_is, grown, c.self.invariant.rows_there) in
     let none_left : left.items ≡ [] = nil_from_length left.items (omega (arith, c.in-None.ensures.cases, left.ok.0)) in
-    let new = new-is c.self.invariant c.pop.new.self.items c.in-Some.frame c.in-Some.ensures.items c.args.counts.now c.begin.new.self c.begin.ensures.value in
-    let seen = ap₂ (λ (frames : List (Option Frame)) (free : List ℕ). view_of frames (reverse free) s.count s.slots s.threads)
-    c.push_reserved.ensures.items none_left in
-    seen ∙ view-grown c.self.view_is c.args.counts.now c.begin.new.self none new
+    let new : Frame = new_frame (length (held_at r.frames f).slots) (length (held_at r.frames f).counts) c.args.counts.now in
+    let rows_are : c.begin-in-None.new.self ≡ slice_set r.frames (length r.lives.items) new =
+    c.begin-in-None.ensures.value ∙ ap (λ (k : ℕ). slice_set r.frames k new) number_is in
+    let shows : shown c.push_reserved.new.self.items c.begin-in-None.new.self ≡ shown_of st ++ Some new ∷ [] =
+    ap₂ (λ (l : List Bool) (rows : List Frame). shown l rows) c.push_reserved.ensures.items rows_are
+    ∙ shown-push r.lives.items r.frames new (omega (arith, grown, c.self.invariant.rows_there)) in
+    ap₂ (λ (l : List (Option Frame)) (free : List ℕ). view_of l (reverse free) r.count r.slots r.threads) shows none_left
+    ∙ view-grown c.self.view_is c.args.counts.now new none (begun-new st c.self.invariant f within c.args.counts.now)

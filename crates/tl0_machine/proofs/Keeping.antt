@@ -1,6 +1,8 @@
 -- What is kept of a state, where its sizes are kept.
-use Rattle.std.proofs.Common.{◌≡◌, ◌∙◌, ℕ, ◌<◌, List, Bool, length, ap, sym, subst, arith}
-use Rattle.std.specs.Prelude.{slice_index}
+use Rattle.std.proofs.Common.{◌≡◌, ◌∙◌, ℕ, ◌<◌, ◌≤◌, List, Bool, length, ap, sym, subst, arith}
+use Rattle.std.specs.Prelude.{slice_index, vec_capacity}
+use Rattle.std.specs.declared.vec.Vec.{Vec}
+use Rattle.std.specs.declared.alloc.Global.{Global}
 use Rattle.tam_istr.specs.Cells.{Arrays, cells_used}
 use Rattle.tam_msgs.specs.declared.limits.Limits.{Limits}
 use Rattle.tl0_code.specs.ThreadCode.{Program}
@@ -9,11 +11,11 @@ use Rattle.tl0_machine.specs.ThreadStates.{sizes_of, beside_of, IsKept}
 
 -- the sizes of a state
 abbrev Sizes : Type 0
-Sizes = (ℕ × ℕ × ℕ) × List ℕ × ℕ × (ℕ × ℕ) × ℕ × ℕ
+Sizes = (ℕ × ℕ × ℕ) × Vec ℕ Global × ℕ × (ℕ × ℕ) × ℕ × ℕ
 
 -- what a thread leaves as it was
-abbrev Beside : Type 0
-Beside = (ℕ × ℕ × ℕ) × List ℕ × ℕ × Arrays × List Bool × ℕ
+abbrev pub Beside : Type 0
+Beside = (ℕ × ℕ × ℕ) × Vec ℕ Global × ℕ × Arrays × List Bool × ℕ
 
 module _ (old new : ThreadState) where
   -- what a thread leaves as it was has the same sizes
@@ -31,7 +33,7 @@ module _ (old new : ThreadState) where
 
     -- frames are of the same codes
     pub codes-beside : new.codes.items ≡ old.codes.items
-    codes-beside = ap (λ (b : Beside). b.1) same
+    codes-beside = ap (λ (b : Beside). b.1.items) same
 
   module _ (same : sizes_of new ≡ sizes_of old) where
     -- as many have begun
@@ -52,7 +54,8 @@ module _ (old new : ThreadState) where
           frames = ap (λ (s : Sizes). s.0.0) same ∙ kept.frames;
           slots = ap (λ (s : Sizes). s.0.1) same ∙ kept.slots;
           threads = ap (λ (s : Sizes). s.0.2) same ∙ kept.threads;
-          codes = λ f. subst (λ (codes : List ℕ). slice_index codes f < length p.codes) (sym (ap (λ (s : Sizes). s.1) same)) (kept.codes f);
+          codes = λ f. subst (λ (codes : Vec ℕ Global). slice_index codes.items f < length p.codes) (sym (ap (λ (s : Sizes). s.1) same)) (kept.codes f);
+          code_room = subst (λ (codes : Vec ℕ Global). limits.frames ≤ vec_capacity codes) (sym (ap (λ (s : Sizes). s.1) same)) kept.code_room;
           arrays = omega (arith, arrays, events, kept.arrays);
           cells = omega (arith, cells, kept.cells);
           events = omega (arith, events, kept.events);

@@ -3,3 +3,10 @@ pub mod Stopping
 pub mod Progressing
 pub mod Keeping
 pub mod Instructions
+pub mod CheckedCode
+pub mod CountLists
+pub mod Arguments
+pub mod Choosing
+pub mod FirstState
+pub mod NewFrames
+pub mod Deliveries

@@ -1,9 +1,10 @@
 -- What the stop of a thread leaves, by what its frame owes behind it and by whether a thread of it is ready.
-use Rattle.std.proofs.Common.{◌≡◌, ℕ, zero, suc, ◌-◌, true, false, List, [], ◌∷◌, Option, Some, None, refl, ap}
+use Rattle.std.proofs.Common.{◌≡◌, ◌∙◌, ℕ, zero, suc, ◌-◌, true, false, List, [], ◌∷◌, Option, Some, None, refl, ap}
 use Rattle.std.specs.Prelude.{slice_get}
 use Rattle.tam_msgs.specs.Runs.{Wild_skip}
 use Rattle.tam_frames.specs.FrameTables.{Frame, FrameTable, or_frame, is_some_frame, is_live, frame_at, changed_in, changed, lowered}
-use Rattle.tam_frames.specs.StoredFrames.{has_any, is_busy}
+use Rattle.tam_frames.specs.StoredFrames.{StoredFrames, with_table, has_any, is_busy}
+use Rattle.tam_frames.proofs.LiveLemmas.{live-changed}
 use Rattle.tl0_code.specs.Machines.{Machine, Giving, Fine, Broken, at_rest, with_given, owing_less, stopped, all_done}
 
 -- a frame that is there is changed
@@ -22,6 +23,11 @@ frame-changed s f change live = frame-changed_in s.frames f change live
 -- a live frame owes less
 pub owed-lowered : (s : FrameTable) (f n : ℕ) → is_live s f ≡ true → (frame_at (lowered s f n) f).owed ≡ (frame_at s f).owed - n
 owed-lowered s f n live = ap (λ (h : Frame). h.owed) (frame-changed s f (λ h. record h { owed = h.owed - n }) live)
+
+-- where a frame was changed, the same are live
+pub still-live : (s new : StoredFrames) (f g : ℕ) (change : Frame → Frame) → new ≡ with_table s (changed s.table f change) → is_live s.table g ≡ true
+    → is_live new.table g ≡ true
+still-live s new f g change is live = ap (λ (v : StoredFrames). is_live v.table g) is ∙ (live-changed s.table f g change ∙ live)
 
 module _ (m : Machine) (f : ℕ) where
   -- the frame owes more

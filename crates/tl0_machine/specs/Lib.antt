@@ -1,3 +1,4 @@
 pub mod CodeFits
 pub mod ThreadStates
 pub mod ThreadEvents
+pub mod QuickEvents

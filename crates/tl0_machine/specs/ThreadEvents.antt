@@ -20,17 +20,23 @@ use Rattle.tl0_machine.specs.declared.stop0.Stop0.TheVariants.{Stop as Stops, Wi
 use Rattle.tl0_machine.specs.declared.thread_state.ThreadState.{ThreadState}
 use Rattle.tl0_machine.specs.ThreadStates.{SeenState, machine_with, state_of, machine_of, AreMarked, cause_of}
 
--- what the end of a run tells: what was printed, the events, the activations and the cells
-abbrev pub told_of : Machine → List (ℕ × ℕ) × ℕ × ℕ × Arrays
-told_of m = (m.printed, m.events, m.begun, m.arrays)
+-- what the end of a run tells: what was printed, the events, the activations and the cells; and what is left of the order list
+abbrev pub told_of : Machine → List (ℕ × ℕ) × ℕ × ℕ × Arrays × List Item
+told_of m = (m.printed, m.events, m.begun, m.arrays, m.order)
 
 -- the run is wild, by this cause, and tells what this state tells
 abbrev pub IsWild : Outcome Machine → WildCause → ℕ → Machine → Type 0
 IsWild (Next m) what n new = ⊥
 IsWild (Ended how m) what n new = (how ≡ Wild what n) × (told_of m ≡ told_of new)
 
+-- memory is wanted only where the run would go on or be wild
+abbrev pub MayWant : Outcome Machine → Type 0
+MayWant (Next m) = Unit {0}
+MayWant (Ended (Wild what n) m) = Unit {0}
+MayWant (Ended how m) = ⊥
+
 -- the answer is what comes of an event: the state and what was printed, or how the run ended. A wild run tells the same as the state that is left, where
--- frames and messages may differ; of memory that is wanted nothing is said
+-- frames and messages may differ
 abbrev pub IsOutcome : Outcome Machine → SeenState → List Item → List (ℕ × ℕ) → Result Step Stop0 → Type 0
 IsOutcome outcome s order printed (Ok Ran) = outcome ≡ Next (machine_with s order printed)
 IsOutcome outcome s order printed (Ok Delivered) = outcome ≡ Next (machine_with s order printed)
@@ -41,7 +47,7 @@ IsOutcome outcome s order printed (Err (Stops (OutOfRange site i n))) = outcome 
 IsOutcome outcome s order printed (Err (Stops (FramesFull n))) = outcome ≡ Ended (Frames_full n) (machine_with s order printed)
 IsOutcome outcome s order printed (Err (Stops (CellsFull used n))) = outcome ≡ Ended (Cells_full used n) (machine_with s order printed)
 IsOutcome outcome s order printed (Err (Stops (BudgetSpent n))) = outcome ≡ Ended (Budget_spent n) (machine_with s order printed)
-IsOutcome outcome s order printed (Err (Stops NoMemory)) = Unit {0}
+IsOutcome outcome s order printed (Err (Stops NoMemory)) = MayWant outcome
 IsOutcome outcome s order printed (Err (Goes_wild what n)) = IsWild outcome (cause_of what) n (machine_with s order printed)
 
 -- what was printed behind an answer

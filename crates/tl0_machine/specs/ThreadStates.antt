@@ -1,5 +1,5 @@
 -- What contracts see of the state that a run of threads keeps.
-use Rattle.std.specs.Prelude.{ℕ, ◌≡◌, ◌==◌, ◌+◌, ◌<◌, ◌≤◌, Bool, true, List, map, length, Some, slice_get, slice_index, Result, Ok, Err}
+use Rattle.std.specs.Prelude.{ℕ, ◌≡◌, ◌==◌, ◌+◌, ◌<◌, ◌≤◌, Bool, true, List, map, length, Some, slice_get, slice_index, vec_capacity, Result, Ok, Err}
 use Rattle.std.specs.declared.vec.Vec.{Vec}
 use Rattle.std.specs.declared.alloc.Global.{Global}
 use Rattle.tam_word.specs.Lists.{any_of}
@@ -8,6 +8,7 @@ use Rattle.tam_msgs.specs.declared.limits.Limits.{Limits}
 use Rattle.tam_msgs.specs.declared.message.Message.{Message}
 use Rattle.tam_msgs.specs.declared.message.Message.TheVariants.{Frame as Begin}
 use Rattle.tam_msgs.specs.declared.stop.Stop.TheVariants.{DoubleWrite, OutOfRange, FramesFull, CellsFull, BudgetSpent, NoMemory}
+use Rattle.tam_msgs.specs.PendingMessages.{PendingMessages}
 use Rattle.tam_msgs.specs.Runs.{WildCause, Wild_frame, Wild_inlet, Wild_thread, Wild_array, Wild_place, Wild_skip}
 use Rattle.tam_istr.specs.Cells.{Arrays, cells_used}
 use Rattle.tam_frames.specs.FrameTables.{FrameTable, is_live}
@@ -98,23 +99,34 @@ abbrev pub Does : (Machine → Progress) → ThreadState → ThreadState → Res
 Does step old new result = (order : List Item) (printed : List (ℕ × ℕ)) → IsProgress (step (machine_of old order printed)) (machine_of new order printed) result
 
 -- what a thread leaves as it was: the frames' room, what has begun, the cells, what was printed and the events
-abbrev pub beside_of : ThreadState → (ℕ × ℕ × ℕ) × List ℕ × ℕ × Arrays × List Bool × ℕ
-beside_of s = ((s.frames.count, s.frames.slots, s.frames.threads), s.codes.items, s.begun, s.cells, s.printed.items, s.events)
+abbrev pub beside_of : ThreadState → (ℕ × ℕ × ℕ) × Vec ℕ Global × ℕ × Arrays × List Bool × ℕ
+beside_of s = ((s.frames.count, s.frames.slots, s.frames.threads), s.codes, s.begun, s.cells, s.printed.items, s.events)
 
 -- what has its size, and nothing more of it: the frames' room, their codes, what has begun, the cells, the marks and the events
-abbrev pub sizes_of : ThreadState → (ℕ × ℕ × ℕ) × List ℕ × ℕ × (ℕ × ℕ) × ℕ × ℕ
+abbrev pub sizes_of : ThreadState → (ℕ × ℕ × ℕ) × Vec ℕ Global × ℕ × (ℕ × ℕ) × ℕ × ℕ
 sizes_of s = (
   (s.frames.count, s.frames.slots, s.frames.threads),
-  s.codes.items,
+  s.codes,
   s.begun,
   (length s.cells, cells_used s.cells),
   length s.printed.items,
   s.events,
 )
 
--- what the taking of a frame leaves as it was: the frames' room, what has begun, the messages, the cells, what was printed and the events
-abbrev pub beside_frames : ThreadState → (ℕ × ℕ × ℕ) × ℕ × List Message × Arrays × List Bool × ℕ
-beside_frames s = ((s.frames.count, s.frames.slots, s.frames.threads), s.begun, s.pending.messages, s.cells, s.printed.items, s.events)
+-- what the taking of a frame leaves as it was: the frames' room and that of their codes, what has begun, and the rest
+abbrev pub beside_frames : ThreadState → (ℕ × ℕ × ℕ × ℕ) × ℕ × PendingMessages × Arrays × List Bool × ℕ
+beside_frames s = (
+  (s.frames.count, s.frames.slots, s.frames.threads, vec_capacity s.codes),
+  s.begun,
+  s.pending,
+  s.cells,
+  s.printed.items,
+  s.events,
+)
+
+-- what the begin of an activation leaves as it was: the messages, what was printed and the events
+abbrev pub beside_begin : ThreadState → PendingMessages × List Bool × ℕ
+beside_begin s = (s.pending, s.printed.items, s.events)
 
 -- the frames that were live are live
 abbrev pub KeepsLive : ThreadState → ThreadState → Type 0
@@ -132,12 +144,13 @@ pub record HasRoom (p : Program) (count : ℕ) (s : StoredFrames) : Type 0 where
   pub slots : s.slots ≡ widest_slots p
   pub threads : s.threads ≡ widest_threads p
 
--- frames have room for each code, each result of `main` has a mark, and all is within the limits
+-- frames have room for each code, each number of a frame has room for its code, each result of `main` has a mark, and all is within the limits
 pub record IsKept (p : Program) (limits : Limits) (s : ThreadState) : Type 0 where
   pub frames : s.frames.count ≡ limits.frames
   pub slots : s.frames.slots ≡ widest_slots p
   pub threads : s.frames.threads ≡ widest_threads p
   pub codes : AreCodes p s.codes.items
+  pub code_room : limits.frames ≤ vec_capacity s.codes
   pub arrays : length s.cells ≤ s.events
   pub cells : cells_used s.cells ≤ limits.cells
   pub events : s.events ≤ limits.budget

@@ -1,10 +1,13 @@
 // What changes in a run of threads.
-ghost use Rattle.std.specs.Prelude.{◌≡◌, ◌+◌, ◌%◌, ◌^◌, ◌∷◌, [], ◌++◌, slice_index, OnOk};
+ghost use Rattle.std.specs.Prelude.{◌≡◌, ◌<◌, ◌+◌, ◌%◌, ◌^◌, ◌∷◌, [], ◌++◌, slice_index, IsOk, OnOk};
 
 use tam_edge::NoMemory;
 use tam_frames::Frames;
 use tam_istr::Cells;
 use tam_msgs::{Message, Pending};
+
+/// The number that names the outside.
+pub const OUTSIDE: u32 = u32::MAX;
 
 /// What changes in a run of threads.
 #[derive(Drop)]
@@ -41,6 +44,7 @@ pub fn inlet_behind(inlet: u32, places: u32) -> u32
 // A message is sent.
 pub fn send(pending: &mut Pending, message: Message) -> Result<(), NoMemory>
     ensures ok { OnOk result (pending.new.messages ≡ pending.old.messages ++ message ∷ []) }
+    ensures room { 0 < pending.old.spare → IsOk result }
 {
     match pending.send(message) {
         Ok(()) => Ok(()),

@@ -4,6 +4,8 @@ ghost use Rattle.tam_msgs.specs.declared.item.Item.{Item};
 ghost use Rattle.tam_msgs.specs.Messages.{site};
 ghost use Rattle.tam_frames.specs.FrameTables.{is_live, slot_in};
 ghost use Rattle.tl0_code.specs.Machines.{Giving, Fine, put, spend, skipped, done, done_all, stopped, done_thread, with_message};
+ghost use Rattle.tam_word.specs.Lists.{all_of};
+ghost use Rattle.tl0_machine.specs.QuickEvents.{WantsNothing, is_silent};
 ghost use Rattle.tl0_machine.specs.CodeFits.{IsNamed, AreNamed};
 ghost use Rattle.tl0_machine.specs.ThreadStates.{beside_of, KeepsLive, Does, machine_of};
 
@@ -23,6 +25,7 @@ pub fn spend(state: &mut ThreadState, f: u32, thread: u32) -> Result<(), Stop0>
     ensures value { Does (λ m. spend m f thread) state.old state.new result }
     ensures beside { beside_of state.new ≡ beside_of state.old }
     ensures live { KeepsLive state.old state.new }
+    ensures quick { WantsNothing result }
 {
     match state.frames.spend(f, thread) {
         Spend::Spent => Err(Stop0::Wild {
@@ -39,6 +42,7 @@ fn skip(state: &mut ThreadState, f: u32, n: u32) -> Result<(), Stop0>
     ensures value { Does (λ m. skipped Giving m f n) state.old state.new result }
     ensures beside { beside_of state.new ≡ beside_of state.old }
     ensures live { KeepsLive state.old state.new }
+    ensures quick { WantsNothing result }
 {
     if n >= state.frames.owed(f) {
         return Err(Stop0::Wild {
@@ -51,7 +55,7 @@ fn skip(state: &mut ThreadState, f: u32, n: u32) -> Result<(), Stop0>
 }
 
 // A slot of frame f gets a word.
-fn put(state: &mut ThreadState, f: u32, slot: u32, word: u32)
+pub fn put(state: &mut ThreadState, f: u32, slot: u32, word: u32)
     requires live { IsTrue (is_live state.old.frames.table f) }
     requires slot { slot < state.old.frames.slots }
     ensures value { (order : List Item) (printed : List (ℕ × ℕ)) → machine_of state.new order printed ≡ put (machine_of state.old order printed) f slot word }
@@ -207,6 +211,7 @@ fn switch(state: &mut ThreadState, f: u32, s: u32, yes: u32, no: u32) -> Result<
     ensures value { Does (λ m. done Giving m f (Instr.Switch s yes no)) state.old state.new result }
     ensures beside { beside_of state.new ≡ beside_of state.old }
     ensures live { KeepsLive state.old state.new }
+    ensures quick { WantsNothing result }
 {
     if word(state, f, s) == 0 {
         spend(state, f, no)
@@ -224,6 +229,7 @@ fn carry_out(state: &mut ThreadState, f: u32, instr: Instr) -> Result<(), Stop0>
     ensures value { Does (λ m. done Giving m f instr) state.old state.new result }
     ensures beside { beside_of state.new ≡ beside_of state.old }
     ensures live { KeepsLive state.old state.new }
+    ensures quick { IsTrue (is_silent instr) → WantsNothing result }
 {
     match instr {
         Instr::Imm { d, word } => {
@@ -280,6 +286,7 @@ fn carry_out_all(state: &mut ThreadState, f: u32, instrs: &[Instr]) -> Result<()
     ensures value { Does (λ m. done_all Giving m f instrs.now) state.old state.new result }
     ensures beside { beside_of state.new ≡ beside_of state.old }
     ensures live { KeepsLive state.old state.new }
+    ensures quick { IsTrue (all_of is_silent instrs.now) → WantsNothing result }
 {
     for instr in instrs {
         carry_out(state, f, *instr)?;
@@ -292,6 +299,7 @@ fn stop(state: &mut ThreadState, f: u32) -> Result<(), Stop0>
     requires live { IsTrue (is_live state.old.frames.table f) }
     ensures value { Does (λ m. stopped Giving m f) state.old state.new result }
     ensures beside { beside_of state.new ≡ beside_of state.old }
+    ensures quick { WantsNothing result }
 {
     state.frames.lower(f, 1);
     if state.frames.owed(f) > 0 {
@@ -316,6 +324,7 @@ pub fn run_thread(state: &mut ThreadState, f: u32, instrs: &[Instr]) -> Result<(
     requires named { AreNamed state.old.frames.slots state.old.frames.threads instrs.now }
     ensures value { Does (λ m. done_thread Giving m f instrs.now) state.old state.new result }
     ensures beside { beside_of state.new ≡ beside_of state.old }
+    ensures quick { IsTrue (all_of is_silent instrs.now) → WantsNothing result }
 {
     carry_out_all(state, f, instrs)?;
     stop(state, f)

@@ -6,6 +6,8 @@ use Rattle.tl0_code.specs.Machines.{Progress, Giving, done_all}
 use Rattle.tl0_machine.specs.declared.stop0.Stop0.{Stop0}
 use Rattle.tl0_machine.specs.CodeFits.{IsNamed}
 use Rattle.tl0_machine.specs.ThreadStates.{machine_of, IsProgress}
+use Rattle.tl0_machine.specs.QuickEvents.{WantsNothing, is_silent}
+use Rattle.tam_word.proofs.Members.{all-in, get-in}
 use Rattle.tl0_machine.proofs.Keeping.{slots-beside, threads-beside, codes-beside}
 use Rattle.tl0_machine.proofs.Instructions.{get-there, done_all-next, done_all-breaks}
 use Rattle.tl0_machine.proofs.threads.carry_out_all.Goals as goal
@@ -52,3 +54,11 @@ returns-in_err-carry_out-clause-value c = λ order printed.
     let given : c.from_residual.result ≡ Err e = search rules in
     subst (λ (r : Result Unit Stop0). IsProgress (done_all Giving (machine_of c.args.state.now order printed) c.args.f c.args.instrs.now) n r) (sym given)
     (subst (λ (x : Progress). IsProgress x n (Err e)) (sym (c.loop-instr.invariant.same order printed)) breaks)
+
+pub returns-in_err-carry_out-clause-quick : goal.returns-in_err-carry_out-clause-quick
+returns-in_err-carry_out-clause-quick c = λ silent.
+    let i = c.loop-instr.instr-index in
+    let instr : Instr = get_or c.args.instrs.now i (Imm 0 0) in
+    let among = get-in c.args.instrs.now i instr (get-there c.args.instrs.now i (Imm 0 0) c.loop-instr-test.true) in
+    let given : c.from_residual.result ≡ Err c.in_err-carry_out.field-0.0 = search rules in
+    subst (λ (r : Result Unit Stop0). WantsNothing r) (sym given) (c.in_err-carry_out.ensures.quick (all-in is_silent c.args.instrs.now silent instr among))

@@ -1,27 +1,19 @@
 use Rattle.std.proofs.Common.{◌≡◌, ◌∙◌, ◌-◌, ap, sym, true, false, suc, arith}
-use Rattle.tam_frames.specs.FrameTables.{frame_at, is_live, lowered, rested, given_back}
+use Rattle.tam_frames.specs.FrameTables.{frame_at, lowered, rested, given_back}
 use Rattle.tam_frames.specs.StoredFrames.{StoredFrames, is_busy}
-use Rattle.tam_frames.proofs.LiveLemmas.{live-changed}
 use Rattle.tl0_code.specs.Machines.{Fine}
 use Rattle.tl0_machine.specs.ThreadStates.{machine_of}
-use Rattle.tl0_machine.proofs.Stopping.{owed-lowered, stopped-owes, stopped-gives, stopped-wild}
+use Rattle.tl0_machine.proofs.Stopping.{still-live, owed-lowered, stopped-owes, stopped-gives, stopped-wild}
 use Rattle.tl0_machine.proofs.threads.stop.Goals as goal
 
 pub owed-requires : goal.owed-requires
-owed-requires c = record {
-  live = ap (λ (v : StoredFrames). is_live v.table c.args.f) c.lower.ensures.value
-      ∙ (live-changed c.args.state.now.frames.table c.args.f c.args.f (λ h. record h { owed = h.owed - 1 }) ∙ c.requires.live);
-}
+owed-requires c = record { live = still-live c.args.state.now.frames c.lower.new.self c.args.f c.args.f _ c.lower.ensures.value c.requires.live }
 
 pub busy-requires : goal.busy-requires
-busy-requires c = record {
-  live = ap (λ (v : StoredFrames). is_live v.table c.args.f) c.lower.ensures.value
-      ∙ (live-changed c.args.state.now.frames.table c.args.f c.args.f (λ h. record h { owed = h.owed - 1 }) ∙ c.requires.live);
-}
+busy-requires c = record { live = still-live c.args.state.now.frames c.lower.new.self c.args.f c.args.f _ c.lower.ensures.value c.requires.live }
 
 pub give-requires-clause-live : goal.give-requires-clause-live
-give-requires-clause-live c = ap (λ (v : StoredFrames). is_live v.table c.args.f) c.lower.ensures.value
-    ∙ (live-changed c.args.state.now.frames.table c.args.f c.args.f (λ h. record h { owed = h.owed - 1 }) ∙ c.requires.live)
+give-requires-clause-live c = still-live c.args.state.now.frames c.lower.new.self c.args.f c.args.f _ c.lower.ensures.value c.requires.live
 
 pub returns-then-owed-gt0-clause-value : goal.returns-then-owed-gt0-clause-value
 returns-then-owed-gt0-clause-value c = λ order printed.

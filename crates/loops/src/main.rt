@@ -2,12 +2,16 @@
 //!
 //! `loops count STEPS` makes so many steps of a machine that counts in a register, `loops copy STEPS` of one that loads and stores; both print the
 //! register x5 then. `loops words COUNT` prints so many words into a buffer, reads each again and prints their sum. `loops forks COUNT` reads a text
-//! of thread code with one thread of so many instructions, and prints how many there are.
-//! Over the assembler, the machine, words and the text of thread code.
+//! of thread code with one thread of so many instructions, and prints how many there are. `loops block COUNT VERTICES` cuts so many random blocks of
+//! so many vertices into classes, of 512 vertices where their number isn't given, and prints how many classes there are.
+//! Over the assembler, the machine, words, the text of thread code, and the partition of blocks.
 #![tactic(auto)]
+
+mod blocks;
 
 ghost use Rattle.std.specs.Prelude.{◌≤◌, length};
 
+use blocks::{MOST_VERTICES, classes_of_blocks};
 use rv_asm::assemble;
 use rv_machine::{Rv, RvStep};
 use std::alloc::{AllocError, Global};
@@ -66,6 +70,7 @@ enum Loop {
     Copy,
     Words,
     Forks,
+    Block { vertices: u32 },
 }
 
 fn main(rt: HostRuntime) -> ExitCode {
@@ -84,15 +89,27 @@ fn main(rt: HostRuntime) -> ExitCode {
 // The loop, and how many times it is asked for.
 fn asked(rt: &HostRuntime) -> Option<(Loop, u32)> {
     let mut words = env::args(rt).ok()?.skip(1);
-    let kind = match words.next()?.as_str() {
+    let name = words.next()?;
+    let times = read_number(words.next()?.as_str().as_bytes(), u32::MAX)?;
+    let kind = match name.as_str() {
         "count" => Loop::Count,
         "copy" => Loop::Copy,
         "words" => Loop::Words,
         "forks" => Loop::Forks,
+        "block" => Loop::Block {
+            vertices: size_of_block(words.next())?,
+        },
         _ => return None,
     };
-    let times = read_number(words.next()?.as_str().as_bytes(), u32::MAX)?;
     Some((kind, times))
+}
+
+// How many vertices a block is to have: as many as it may, where no word says it.
+fn size_of_block(word: Option<String>) -> Option<u32> {
+    match word {
+        None => Some(MOST_VERTICES),
+        Some(word) => read_number(word.as_str().as_bytes(), MOST_VERTICES),
+    }
 }
 
 // What is left at the end of a loop, where there is memory for it.
@@ -102,6 +119,7 @@ fn run(alloc: Global, kind: Loop, times: u32) -> Option<u32> {
         Loop::Copy => run_machine(alloc, COPY, times),
         Loop::Words => Some(sum_of_words(times)),
         Loop::Forks => read_forks(alloc, times),
+        Loop::Block { vertices } => cut_blocks(alloc, times, vertices),
     }
 }
 
@@ -151,4 +169,12 @@ fn forks_text(alloc: Global, count: u32) -> Result<Vec<u8>, AllocError> {
     }
     text.extend_from_slice(TAIL)?;
     Ok(text)
+}
+
+// How many classes so many random blocks have, where they aren't too large.
+fn cut_blocks(alloc: Global, count: u32, vertices: u32) -> Option<u32> {
+    if vertices > MOST_VERTICES {
+        return None;
+    }
+    classes_of_blocks(alloc, count, vertices).ok()
 }

@@ -6,3 +6,4 @@ pub mod Separating
 pub mod Joining
 pub mod Standing
 pub mod Shut
+pub mod Leasts

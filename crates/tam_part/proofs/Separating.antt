@@ -14,11 +14,11 @@ use Rattle.tam_sets.specs.Sets.{with_place, joined}
 use Rattle.tam_sets.proofs.PlacesWhere.{has-where, in-where}
 use Rattle.tam_quotient.specs.Tables.{set_at}
 use Rattle.tam_quotient.proofs.Tabling.{get-table, length-table}
-use Rattle.tam_part.specs.Kept.{AreSeparated, named_in, apart_after}
+use Rattle.tam_part.specs.Kept.{AreSeparated, apart_after}
 use Rattle.tam_part.proofs.Leading.{or-cases, same-class}
 
 -- what is apart from another is so the other way round
-apart-swap : (b : BlockGraph) (ps : Parts) (c d : ℕ) → are_apart b ps c d ≡ true → are_apart b ps d c ≡ true
+pub apart-swap : (b : BlockGraph) (ps : Parts) (c d : ℕ) → are_apart b ps c d ≡ true → are_apart b ps d c ≡ true
 apart-swap b ps c d h = apart-are_apart b ps d c (swap (are_apart-apart b ps c d h))
   where
     swap : Apart b ps c d → Apart b ps d c
@@ -122,30 +122,17 @@ module _ (b : BlockGraph) (few : length b.vertices ≤ 512) (ps : Parts) (parts 
         | inr p ↦ subst (λ z. are_apart b (merged ps k l) z (class_of (merged ps k l) y) ≡ true) (sym one) (still c y (was.each c y lc m p))
       ]
 
-  -- the other way round
-  to-both : (x : ℕ) → x < length b.vertices → has (joined (set_at old a) (set_at old c)) x ≡ true → Still x a
-  unfolding Still
-  to-both x m h = apart-swap b (merged ps k l) (class_of (merged ps k l) a) (class_of (merged ps k l) x) (from-both x m h)
-
   -- so what is noted for place x stays true
   after-apart : (x y : ℕ) → x < length b.vertices → y < length b.vertices
       → has (apart_after a (joined (set_at old a) (set_at old c)) x (set_at old x)) y ≡ true → Still x y
   unfolding Still
-  after-apart x y lx ly h = go (x == a) refl (has (joined (set_at old a) (set_at old c)) x) refl
+  after-apart x y lx ly h = go (x == a) refl
     where
-      low : y < 512
-      low = omega (arith, few, ly)
-
-      go : (s : Bool) → (x == a) ≡ s → (t : Bool) → has (joined (set_at old a) (set_at old c)) x ≡ t
-          → are_apart b (merged ps k l) (class_of (merged ps k l) x) (class_of (merged ps k l) y) ≡ true
-      go true p t q =
+      go : (s : Bool) → (x == a) ≡ s → are_apart b (merged ps k l) (class_of (merged ps k l) x) (class_of (merged ps k l) y) ≡ true
+      go true p =
           subst (λ z. are_apart b (merged ps k l) (class_of (merged ps k l) z) (class_of (merged ps k l) y) ≡ true) (sym (number-eq x a p))
           (from-both y ly (rw (apart_after, p) at h))
-      go false p true q = elim (with-cases a y (set_at old x) (rw (apart_after, p, named_in, q) at h)) [
-        | inl m ↦ still x y (was.each x y lx ly m)
-        | inr e ↦ subst (λ z. are_apart b (merged ps k l) (class_of (merged ps k l) x) (class_of (merged ps k l) z) ≡ true) (sym e) (to-both x lx q)
-      ]
-      go false p false q = still x y (was.each x y lx ly (rw (apart_after, p, named_in, q) at h))
+      go false p = still x y (was.each x y lx ly (rw (apart_after, p) at h))
 
   -- for each place
   pub separated-merged : (news : List (List ℕ)) → length news ≡ length old

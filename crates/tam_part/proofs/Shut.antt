@@ -1,13 +1,13 @@
 -- Two classes that may not be merged may not be merged after a merge of two others.
-use Rattle.std.proofs.Common.{◌≡◌, ℕ, zero, suc, pred, ◌<◌, ◌≤◌, Bool, true, false, ◌==◌, refl, sym, subst, ap, inl, inr, ◌⊎◌, ◌∙◌, length, nat_lt, arith, true≢false}
+use Rattle.std.proofs.Common.{◌≡◌, ℕ, suc, ◌<◌, ◌≤◌, Bool, true, false, ◌==◌, refl, sym, subst, ap, ◌∙◌, length, nat_lt, arith, true≢false}
 use Rattle.std.proofs.Common.{tests}
 use Rattle.tam_word.proofs.Tests.{number-eq, number-differs}
 use Rattle.tam_graph.proofs.Merging.{made_one}
-use Rattle.tam_graph.proofs.Quotients.{unskip, skip, unskip-skip, skip-made_one, skip-other, three-ways}
+use Rattle.tam_graph.proofs.Quotients.{unskip, skip, unskip-skip, skip-made_one, skip-other}
 use Rattle.tam_split.specs.Blocks.{BlockGraph}
-use Rattle.tam_split.specs.Partitions.{Parts, class_of, merged, may_merge, are_apart, keeps_dependences, is_valid}
+use Rattle.tam_split.specs.Partitions.{Parts, class_of, merged, may_merge, keeps_dependences, is_valid}
 use Rattle.tam_split.proofs.Classes.{IsParts, parts-after, merged-parts, length-merged}
-use Rattle.tam_split.proofs.Validity.{ClassLeads, kept-keeps, Valid, is_valid-valid, valid-is_valid}
+use Rattle.tam_split.proofs.Validity.{kept-keeps, Valid, is_valid-valid, valid-is_valid}
 use Rattle.tam_split.proofs.Separation.{Apart, are_apart-apart, apart-new, apart-lost, apart-exactly, new, leads-new}
 use Rattle.tam_quotient.proofs.Thirds.{NoneBetween, none-between, none-back, one-after, unskip-other}
 use Rattle.tam_part.specs.Kept.{AreDone}

@@ -23,7 +23,7 @@ use Rattle.tam_part.specs.Kept.{place_leads, ways_at, no_ways, AreWays}
 -- ---- the least place of a class
 
 -- a class is one of them
-class-in : (ps : Parts) (k : ℕ) → k < length ps → In (class_at ps k) ps
+pub class-in : (ps : Parts) (k : ℕ) → k < length ps → In (class_at ps k) ps
 class-in [] k h = absurd (omega arith)
 class-in (p ∷ ps) zero h = inl refl
 class-in (p ∷ ps) (suc k) h = inr (class-in ps k (omega arith))
@@ -102,12 +102,11 @@ module _ (b : BlockGraph) (graph : IsBlockGraph b) where
 
 -- so the ways of the classes are those of the places
 pub ways-begun : (b : BlockGraph) → IsBlockGraph b → (ps : Parts) (ways : List Ways) → ps ≡ single (length b.vertices)
-    → ways ≡ map (ways_of b ps) (below (length ps)) → AreWays b ps ways
+    → ways ≡ map (ways_of b (single (length b.vertices))) (below (length b.vertices)) → AreWays b ps ways
 unfolding each
-ways-begun b graph ps ways e is =
-    let many : length ps ≡ length b.vertices = ap length e ∙ length-single (length b.vertices) in
-    record {
-      count = ap length is ∙ (length-table (ways_of b ps) (length ps) ∙ many);
-      each = λ x l. ap (λ (ws : List Ways). get_or ws x no_ways) is ∙ (get-table (ways_of b ps) (length ps) x no_ways (omega (arith, l, many))
-          ∙ subst (λ (qs : Parts). ways_of b qs x ≡ ways_at b qs x) (sym e) (ways-single b graph x l));
-    }
+ways-begun b graph ps ways e is = record {
+  count = ap length is ∙ length-table (ways_of b (single (length b.vertices))) (length b.vertices);
+  each = λ x l least. ap (λ (ws : List Ways). get_or ws x no_ways) is
+      ∙ (get-table (ways_of b (single (length b.vertices))) (length b.vertices) x no_ways l
+      ∙ (ways-single b graph x l ∙ ap (λ (qs : Parts). ways_at b qs x) (sym e)));
+}

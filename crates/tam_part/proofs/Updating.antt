@@ -1,5 +1,5 @@
 -- The ways that are brought up to date at a merge are those of the merged classes.
-use Rattle.std.proofs.Common.{◌≡◌, ℕ, ◌<◌, ◌≤◌, List, [], ◌∷◌, Bool, true, false, ◌&&◌, ◌||◌, refl, sym, ap, ap₂, ◌∙◌, length, nat_lt, arith}
+use Rattle.std.proofs.Common.{◌≡◌, ℕ, ◌<◌, ◌≤◌, List, [], ◌∷◌, Bool, true, false, ◌&&◌, ◌||◌, refl, sym, subst, ap, ap₂, ◌∙◌, length, nat_lt, arith}
 use Rattle.tam_word.specs.Lists.{all_of, has}
 use Rattle.tam_word.proofs.Tests.{below-test}
 use Rattle.tam_graph.specs.Edges.{reaches}
@@ -11,7 +11,10 @@ use Rattle.tam_sets.proofs.PlacesWhere.{places-same, has-where}
 use Rattle.tam_quotient.specs.declared.ways.Ways.{Ways}
 use Rattle.tam_quotient.specs.Quotients.{allows}
 use Rattle.tam_quotient.proofs.Places.{joined-where, met-where}
-use Rattle.tam_part.specs.Kept.{place_leads, ways_at, AreWays, way_in, both_ways, ways_after}
+use Rattle.tam_split.specs.KeptParts.{AreClasses}
+use Rattle.tam_split.proofs.Separation.{new, new-class}
+use Rattle.tam_part.specs.Kept.{place_leads, ways_at, AreWays, AreAdded, IsLeast, way_in, both_ways, ways_after}
+use Rattle.tam_part.proofs.Leasts.{least-first}
 use Rattle.tam_part.proofs.Leading.{joined_leads, leads-merged}
 
 -- ---- lists of places by tests
@@ -243,13 +246,21 @@ module _ (b : BlockGraph) (few : length b.vertices ≤ 512) (ps : Parts) (parts 
           → ◌≡◌ {A = Ways} (record { ahead = d; behind = e; entering = f; allowed = g }) (record { ahead = p; behind = q; entering = r; allowed = s })
       fields h i j k = cc
 
--- and so are those of all places
-pub ways-merged : (b : BlockGraph) (ps : Parts) (k l a c : ℕ) (old news : List Ways) → length b.vertices ≤ 512 → IsParts (length b.vertices) ps → k < l → l < length ps
-    → class_of ps a ≡ k → class_of ps c ≡ l → a < length b.vertices → c < length b.vertices → AreWays b ps old → length news ≡ length old
-    → ((x : ℕ) → x < length old → way_in news x ≡ ways_after (both_ways (way_in old a) (way_in old c)) x (way_in old x)) → AreWays b (merged ps k l) news
-ways-merged b ps k l a c old news few parts below within in_k in_l la lc ways count each = record {
-  count = count ∙ ways.count;
-  each = λ x h. each x (omega (arith, h, ways.count))
-      ∙ (ap₂ (λ (u v : Ways). ways_after (both_ways u v) x (way_in old x)) (ways.each a la) (ways.each c lc)
-      ∙ (ap (ways_after (both_ways (ways_at b ps a) (ways_at b ps c)) x) (ways.each x h) ∙ after-ways b few ps parts k l below within a c in_k in_l x h));
+-- and so are those of the least places
+pub ways-merged : (b : BlockGraph) (ps : Parts) (k l a c : ℕ) (old news : List Ways) → length b.vertices ≤ 512 → IsParts (length b.vertices) ps → AreClasses ps
+    → k < l → l < length ps → class_of ps a ≡ k → class_of ps c ≡ l → (a < length b.vertices) × IsLeast ps a → (c < length b.vertices) × IsLeast ps c
+    → AreWays b ps old → AreAdded ps (both_ways (way_in old a) (way_in old c)) old news → AreWays b (merged ps k l) news
+ways-merged b ps k l a c old news few parts kept below within in_k in_l la lc ways added = record {
+  count = added.count ∙ ways.count;
+  each = λ x h least. after x h (λ y e. least y (sym (new-class b (length b.vertices) ps parts k l below within y)
+      ∙ (ap (new b (length b.vertices) ps parts k l below within) e ∙ new-class b (length b.vertices) ps parts k l below within x)));
 }
+  where
+    after : (x : ℕ) → x < length b.vertices → IsLeast ps x → way_in news x ≡ ways_at b (merged ps k l) x
+    after x h least =
+        let first = least-first ps kept (length b.vertices) parts x h least in
+        let here : way_in news x ≡ ways_after (both_ways (way_in old a) (way_in old c)) x (way_in old x) =
+        subst (λ z. way_in news z ≡ ways_after (both_ways (way_in old a) (way_in old c)) z (way_in old z)) (sym first)
+        (added.each (class_of ps x) (parts.in_one x h)) in
+        here ∙ (ap₂ (λ (u v : Ways). ways_after (both_ways u v) x (way_in old x)) (ways.each a la.0 la.1) (ways.each c lc.0 lc.1)
+        ∙ (ap (ways_after (both_ways (ways_at b ps a) (ways_at b ps c)) x) (ways.each x h least) ∙ after-ways b few ps parts k l below within a c in_k in_l x h))

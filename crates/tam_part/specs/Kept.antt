@@ -1,9 +1,9 @@
--- What is kept of the classes while they are merged: for each place the ways to its class and from it, and places whose classes are apart from its class.
-use Rattle.std.specs.Prelude.{ℕ, ◌≡◌, ◌<◌, Bool, true, false, ◌&&◌, ◌==◌, nat_lt, List, [], length, slice_index_or, IsTrue}
+-- What is kept of the classes while they are merged: by its least place the ways to each class and from it, and places whose classes are apart from it.
+use Rattle.std.specs.Prelude.{ℕ, ◌≡◌, ◌<◌, ◌≤◌, Bool, true, false, ◌&&◌, ◌==◌, nat_lt, List, [], length, slice_index, slice_index_or, IsTrue}
 use Rattle.tam_word.specs.Lists.{has}
 use Rattle.tam_split.specs.Blocks.{BlockGraph}
-use Rattle.tam_split.specs.Partitions.{Parts, class_of, leads_to, are_apart, may_merge}
-use Rattle.tam_sets.specs.Sets.{places_where, with_place, met, joined}
+use Rattle.tam_split.specs.Partitions.{Parts, class_of, class_at, leads_to, are_apart, may_merge}
+use Rattle.tam_sets.specs.Sets.{places_where, met, joined}
 use Rattle.tam_quotient.specs.declared.ways.Ways.{Ways}
 use Rattle.tam_quotient.specs.Quotients.{entering_of, allowed_of}
 use Rattle.tam_quotient.specs.Tables.{set_at}
@@ -29,10 +29,18 @@ no_ways = record { ahead = []; behind = []; entering = []; allowed = [] }
 abbrev pub way_in : List Ways → ℕ → Ways
 way_in ways x = slice_index_or ways x no_ways
 
--- the table has the ways of each place
+-- the first place of class k
+abbrev pub first_in : Parts → ℕ → ℕ
+first_in ps k = slice_index (class_at ps k) 0
+
+-- no place of its class is below it
+abbrev pub IsLeast : Parts → ℕ → Type 0
+IsLeast ps x = (y : ℕ) → class_of ps y ≡ class_of ps x → x ≤ y
+
+-- the table has the ways of the least place of each class
 pub record AreWays (b : BlockGraph) (ps : Parts) (ways : List Ways) : Type 0 where
   pub count : length ways ≡ length b.vertices
-  pub each : (x : ℕ) → x < length b.vertices → way_in ways x ≡ ways_at b ps x
+  pub each : (x : ℕ) → x < length b.vertices → IsLeast ps x → way_in ways x ≡ ways_at b ps x
 
 -- the table has for each place none but places whose classes are apart from its class
 pub record AreSeparated (b : BlockGraph) (ps : Parts) (apart : List (List ℕ)) : Type 0 where
@@ -58,13 +66,14 @@ ways_after both x way = record {
   allowed = elim (has both.behind x) [ true ↦ met way.allowed both.allowed | false ↦ way.allowed ];
 }
 
--- the set of place x, with place a besides where x is one of the places
-abbrev pub named_in : List ℕ → ℕ → ℕ → List ℕ → List ℕ
-named_in places a x set = elim (has places x) [ true ↦ with_place a set | false ↦ set ]
+-- the ways of the first place of each class are brought up to date, where two classes become one, of these ways
+pub record AreAdded (ps : Parts) (both : Ways) (old news : List Ways) : Type 0 where
+  pub count : length news ≡ length old
+  pub each : (k : ℕ) → k < length ps → way_in news (first_in ps k) ≡ ways_after both (first_in ps k) (way_in old (first_in ps k))
 
--- the places apart from the class of place x, once the class of place a has taken in another, and `both` are apart from one of the two
+-- the places noted for place x, once the class of place a has taken in another, and `both` are apart from one of the two
 abbrev pub apart_after : ℕ → List ℕ → ℕ → List ℕ → List ℕ
-apart_after a both x set = elim (x == a) [ true ↦ both | false ↦ named_in both a x set ]
+apart_after a both x set = elim (x == a) [ true ↦ both | false ↦ set ]
 
 -- no pair whose first class is before class k may be merged, unless its second class is k
 abbrev pub AreDone : BlockGraph → Parts → ℕ → Type 0

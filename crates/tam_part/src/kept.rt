@@ -3,12 +3,15 @@ ghost use Rattle.std.specs.Prelude.{ℕ, ◌≡◌, ◌<◌, ◌≤◌, ◌⊎�
 ghost use Rattle.tam_word.specs.Lists.{has, below};
 ghost use Rattle.tam_sets.specs.Sets.{joined};
 ghost use Rattle.tam_quotient.specs.Tables.{set_at};
-ghost use Rattle.tam_part.specs.Kept.{way_in, both_ways, ways_after, apart_after, named_in};
+ghost use Rattle.tam_split.specs.Partitions.{class_at};
+ghost use Rattle.tam_split.specs.KeptParts.{AreClasses};
+ghost use Rattle.tam_part.specs.Kept.{first_in, both_ways, ways_after, AreAdded, apart_after};
 
 use std::alloc::Global;
 use tam_edge::NoMemory;
 use tam_quotient::Ways;
 use tam_sets::Set;
+use tam_split::Parts;
 
 /// For each of n places the empty set.
 pub(crate) fn none_apart(alloc: Global, n: u32) -> Result<Vec<Set>, NoMemory>
@@ -33,15 +36,26 @@ pub(crate) fn both_ways(one: &Ways, other: &Ways) -> Ways
     }
 }
 
-/// Brings the ways of each place up to date, where two classes have become one, of these ways.
-pub(crate) fn add_to_each(ways: &mut [Ways], both: &Ways)
-    requires few { length ways.old ≤ 512 }
-    ensures count { length ways.new ≡ length ways.old }
-    ensures value { (x : ℕ) → x < length ways.old → way_in ways.new x ≡ ways_after both.now x (way_in ways.old x) }
+/// Brings the ways of the first place of each class up to date, where two of the classes become one, of these ways.
+pub(crate) fn add_to_each(ways: &mut [Ways], both: &Ways, p: &Parts)
+    requires kept { AreClasses p.now }
+    requires in_range { (k : ℕ) → k < length p.now → first_in p.now k < length ways.old }
+    ensures added { AreAdded p.now both.now ways.old ways.new }
 {
-    for place in 0..ways.len() {
-        add(&mut ways[place], both, place as u32);
+    for k in 0..p.classes() {
+        let place = place_of(p, k);
+        add(&mut ways[place as usize], both, place);
     }
+}
+
+/// The first place of a class, which is its least.
+pub(crate) fn place_of(p: &Parts, k: u32) -> u32
+    requires kept { AreClasses p.now }
+    requires in_range { k < length p.now }
+    ensures value { result ≡ first_in p.now k }
+    ensures member { IsTrue (has (class_at p.now k) result) }
+{
+    p.class(k)[0]
 }
 
 // The same for one place.
@@ -70,7 +84,7 @@ pub(crate) fn note_apart(apart: &mut [Set], one: u32, other: u32)
     apart[other as usize].insert(one);
 }
 
-/// Gives the class of the first place what is apart from that of the second too, where the first class has taken in the second.
+/// Notes for the first place what is noted for the second too, where the class of the first takes in that of the second.
 pub(crate) fn join_apart(apart: &mut [Set], one: u32, other: u32)
     requires in_range { (one < length apart.old) × (other < length apart.old) }
     requires few { length apart.old ≤ 512 }
@@ -78,21 +92,5 @@ pub(crate) fn join_apart(apart: &mut [Set], one: u32, other: u32)
     ensures value { (x : ℕ) → x < length apart.old
         → set_at apart.new x ≡ apart_after one (joined (set_at apart.old one) (set_at apart.old other)) x (set_at apart.old x) }
 {
-    let both = apart[one as usize].join(&apart[other as usize]);
-    name_in_each(apart, &both, one);
-    apart[one as usize] = both;
-}
-
-// Puts a place into the sets of these places.
-fn name_in_each(apart: &mut [Set], places: &Set, one: u32)
-    requires in_range { one < 512 }
-    requires few { length apart.old ≤ 512 }
-    ensures count { length apart.new ≡ length apart.old }
-    ensures value { (x : ℕ) → x < length apart.old → set_at apart.new x ≡ named_in places.now one x (set_at apart.old x) }
-{
-    for place in 0..apart.len() {
-        if places.has(place as u32) {
-            apart[place].insert(one);
-        }
-    }
+    apart[one as usize] = apart[one as usize].join(&apart[other as usize]);
 }

@@ -1,23 +1,21 @@
 // One merge after the other.
 ghost use Rattle.std.specs.Prelude.{ℕ, ◌≡◌, ◌<◌, ◌≤◌, ◌+◌, false, [], ◌∷◌, length, IfOk, IfSome, IsNone, IsTrue};
-ghost use Rattle.tam_word.specs.Lists.{has};
 ghost use Rattle.tam_split.specs.PartitionLaws.{IsBlockGraph, IsPartition};
-ghost use Rattle.tam_split.specs.Partitions.{is_valid, class_at, class_of, merged, may_merge, least_pair, partition_of};
+ghost use Rattle.tam_split.specs.Partitions.{is_valid, class_of, merged, may_merge, least_pair, partition_of};
 ghost use Rattle.tam_split.specs.KeptParts.{AreClasses};
-ghost use Rattle.tam_part.specs.Kept.{AreWays, AreSeparated, AreDone};
+ghost use Rattle.tam_part.specs.Kept.{AreWays, AreSeparated, AreDone, IsLeast};
 
-use crate::kept::{add_to_each, both_ways, join_apart, none_apart, note_apart};
+use crate::kept::{add_to_each, both_ways, join_apart, none_apart, note_apart, place_of};
 use std::alloc::Global;
 use tam_edge::NoMemory;
-use tam_quotient::{Ways, quotient};
-use tam_reach::depends;
+use tam_quotient::{Ways, ways_alone};
 use tam_sets::Set;
 use tam_split::{BlockGraph, Parts};
 
 /// The partition of a block. It is valid, and no two of its classes may still be merged.
 ///
-/// For each place the ways to its class and from it are kept, and the places whose classes are apart from its class. While each class is
-/// one place, these are the ways of the classes.
+/// By its least place the ways to each class and from it are kept, and places whose classes are apart from it. While each class is
+/// one place, these are the ways of the places.
 pub fn partition(alloc: Global, b: &BlockGraph) -> Result<Parts, NoMemory>
     ensures value { IfOk result (λ ps. ps ≡ partition_of b.now) }
     ensures valid { IfOk result (λ ps. IsPartition b.now ps × IsTrue (is_valid b.now ps)) }
@@ -25,8 +23,7 @@ pub fn partition(alloc: Global, b: &BlockGraph) -> Result<Parts, NoMemory>
 {
     let count = b.vertices().len() as u32;
     let mut parts = Parts::single(alloc, count)?;
-    let depends = depends(alloc, b)?;
-    let mut ways = quotient(alloc, b, &depends, &parts)?;
+    let mut ways = ways_alone(alloc, b)?;
     let mut apart = none_apart(alloc, count)?;
     let mut k = 0;
     while k < parts.classes() {
@@ -78,8 +75,8 @@ fn partner(
     None
 }
 
-// Whether the classes of two places may be merged, of which the first is before the second. Classes that are known to be apart are not
-// tested again.
+// Whether two classes may be merged, given by their least places, of which the first is before the second. Classes that are noted as apart,
+// for either of the two, are not tested again.
 fn joins(b: &BlockGraph, p: &Parts, ways: &[Ways], apart: &mut [Set], one: u32, other: u32) -> bool
     requires block { IsBlockGraph b.now }
     requires few { length b.now.vertices ≤ 512 }
@@ -89,10 +86,14 @@ fn joins(b: &BlockGraph, p: &Parts, ways: &[Ways], apart: &mut [Set], one: u32, 
     requires separated { AreSeparated b.now p.now apart.old }
     requires in_order { class_of p.now one < class_of p.now other }
     requires in_range { (one < length b.now.vertices) × (other < length b.now.vertices) }
+    requires least { IsLeast p.now one × IsLeast p.now other }
     ensures value { result ≡ may_merge b.now p.now (class_of p.now one, class_of p.now other) }
     ensures separated { AreSeparated b.now p.now apart.new }
 {
     if apart[one as usize].has(other) {
+        return false;
+    }
+    if apart[other as usize].has(one) {
         return false;
     }
     let (here, there) = (&ways[one as usize], &ways[other as usize]);
@@ -119,16 +120,7 @@ fn merge(b: &BlockGraph, p: &mut Parts, ways: &mut [Ways], apart: &mut [Set], k:
     let one = place_of(p, k);
     let other = place_of(p, l);
     let both = both_ways(&ways[one as usize], &ways[other as usize]);
-    add_to_each(ways, &both);
+    add_to_each(ways, &both, p);
     join_apart(apart, one, other);
     p.merge(k, l);
-}
-
-// The least place of a class.
-fn place_of(p: &Parts, k: u32) -> u32
-    requires kept { AreClasses p.now }
-    requires in_range { k < length p.now }
-    ensures member { IsTrue (has (class_at p.now k) result) }
-{
-    p.class(k)[0]
 }

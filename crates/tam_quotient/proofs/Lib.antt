@@ -5,3 +5,4 @@ pub mod Joining
 pub mod Deciding
 pub mod Tabling
 pub mod Surroundings
+pub mod Alone

@@ -22,7 +22,7 @@ use Rattle.tam_quotient.specs.Tables.{set_at, column, entered, is_met, permitted
 use Rattle.tam_quotient.specs.Spreads.{renamed, AreBelow}
 use Rattle.tam_quotient.specs.Joins.{ways_of, ways_to}
 use Rattle.tam_quotient.proofs.Places.{same-test}
-use Rattle.tam_quotient.proofs.Tabling.{get-table, length-table, none-inlet}
+use Rattle.tam_quotient.proofs.Tabling.{get-table, length-table, map-below, none-inlet}
 
 -- ---- few classes
 
@@ -71,6 +71,10 @@ filtered_there test n xs names e m k d h =
     let i : In (get_or xs k d) (filter test (below n)) = subst (λ ys. In (get_or xs k d) ys) e (get-in xs k (get_or xs k d) (slice_get-get_or xs k d h)) in
     let l = in-below (get_or xs k d) n (in-filter test (get_or xs k d) (below n) i).0 in
     omega (arith, l, m)
+
+-- the table has for each vertex the inlets that reach it, and of other places any
+abbrev pub HaveInlets : BlockGraph → List (List ℕ) → Type 0
+HaveInlets b needs = (i o : ℕ) → (vertex_at b i).inlet ≡ true → o < length b.vertices → has (set_at needs o) i ≡ reaches b.edges i o
 
 module _ (b : BlockGraph) (graph : IsBlockGraph b) (ps : Parts) (whole : IsPartition b ps) (least : length ps ≤ 512) where
   -- the class of each place
@@ -128,7 +132,7 @@ module _ (b : BlockGraph) (graph : IsBlockGraph b) (ps : Parts) (whole : IsParti
   lead-has c k h l = ap (λ xs. has xs k) (lead-at c h) ∙ has-where (leads_to b.edges ps c) k l
 
   -- an inlet is a place
-  inlet-low : (i : ℕ) → (vertex_at b i).inlet ≡ true → i < length b.vertices
+  pub inlet-low : (i : ℕ) → (vertex_at b i).inlet ≡ true → i < length b.vertices
   inlet-low i h = go (nat_lt i (length b.vertices)) refl
     where
       go : (t : Bool) → nat_lt i (length b.vertices) ≡ t → i < length b.vertices
@@ -177,44 +181,44 @@ module _ (b : BlockGraph) (graph : IsBlockGraph b) (ps : Parts) (whole : IsParti
             ∙ (has-where (λ d. nat_lt d (length ps) && leads_to b.edges ps d k) (class_of ps i) (omega (arith, c, least))
             ∙ ap (λ t. t && leads_to b.edges ps (class_of ps i) k) (below-test (class_of ps i) (length ps) c)))
 
-    -- and which are allowed
-    permitted-allowed : permitted (inlets_of b) (outlets_of b) classes (set_at leads k) depends ≡ allowed_of b ps k
-    permitted-allowed = places-same _ _ (λ i l. ap (λ t. t && all_of (is_met classes (set_at leads k) depends i) (outlets_of b)) (inlets-has i)
+    -- and which are allowed, by a table that has for each vertex the inlets that reach it
+    permitted-allowed : (needs : List (List ℕ)) → HaveInlets b needs → permitted (inlets_of b) (outlets_of b) classes (set_at leads k) needs ≡ allowed_of b ps k
+    permitted-allowed needs needed = places-same _ _ (λ i l. ap (λ t. t && all_of (is_met classes (set_at leads k) needs i) (outlets_of b)) (inlets-has i)
         ∙ go i (vertex_at b i).inlet refl)
       where
         led : (o : ℕ) → o < length b.vertices → has (set_at leads k) (get_or classes o 0) ≡ leads_to b.edges ps k (class_of ps o)
         led o h = ap (has (set_at leads k)) (class-at o h) ∙ lead-has k (class_of ps o) there (let c : class_of ps o < length ps = whole.in_one o h in omega (arith, c, least))
 
         same : (i o : ℕ) → (vertex_at b i).inlet ≡ true → o < length b.vertices → (vertex_at b o).outlet ≡ true
-            → is_met classes (set_at leads k) depends i o ≡ allows b ps k i o
+            → is_met classes (set_at leads k) needs i o ≡ allows b ps k i o
         same i o p h out = step (leads_to b.edges ps k (class_of ps o)) refl
           where
-            step : (t : Bool) → leads_to b.edges ps k (class_of ps o) ≡ t → is_met classes (set_at leads k) depends i o ≡ allows b ps k i o
-            step true e = rw (is_met, led o h ∙ e, allows, leads_to_outlet, out, e) (depends-has i o p h)
+            step : (t : Bool) → leads_to b.edges ps k (class_of ps o) ≡ t → is_met classes (set_at leads k) needs i o ≡ allows b ps k i o
+            step true e = rw (is_met, led o h ∙ e, allows, leads_to_outlet, out, e) (needed i o p h)
             step false e = rw (is_met, led o h ∙ e, allows, leads_to_outlet, out, e) refl
 
         outlets-all : (i : ℕ) → (vertex_at b i).inlet ≡ true → (os : List ℕ) → ((o : ℕ) → In o os → o < length b.vertices)
-            → all_of (is_met classes (set_at leads k) depends i) (filter (λ o. (vertex_at b o).outlet) os) ≡ all_of (allows b ps k i) os
+            → all_of (is_met classes (set_at leads k) needs i) (filter (λ o. (vertex_at b o).outlet) os) ≡ all_of (allows b ps k i) os
         outlets-all i p [] low = refl
         outlets-all i p (o ∷ os) low = step (vertex_at b o).outlet refl (outlets-all i p os (λ x m. low x (inr m)))
           where
             step : (t : Bool) → (vertex_at b o).outlet ≡ t
-                → all_of (is_met classes (set_at leads k) depends i) (filter (λ o. (vertex_at b o).outlet) os) ≡ all_of (allows b ps k i) os
-                → all_of (is_met classes (set_at leads k) depends i) (filter (λ o. (vertex_at b o).outlet) (o ∷ os)) ≡ all_of (allows b ps k i) (o ∷ os)
+                → all_of (is_met classes (set_at leads k) needs i) (filter (λ o. (vertex_at b o).outlet) os) ≡ all_of (allows b ps k i) os
+                → all_of (is_met classes (set_at leads k) needs i) (filter (λ o. (vertex_at b o).outlet) (o ∷ os)) ≡ all_of (allows b ps k i) (o ∷ os)
             step true e r =
                 let kept : filter (λ x. (vertex_at b x).outlet) (o ∷ os) ≡ o ∷ filter (λ x. (vertex_at b x).outlet) os = rw e refl in
-                ap (all_of (is_met classes (set_at leads k) depends i)) kept
-                ∙ all-step (is_met classes (set_at leads k) depends i) (allows b ps k i) o (filter (λ x. (vertex_at b x).outlet) os) os (same i o p (low o (inl refl)) e) r
+                ap (all_of (is_met classes (set_at leads k) needs i)) kept
+                ∙ all-step (is_met classes (set_at leads k) needs i) (allows b ps k i) o (filter (λ x. (vertex_at b x).outlet) os) os (same i o p (low o (inl refl)) e) r
             step false e r = rw (e, all_of) r
 
-        go : (i : ℕ) (t : Bool) → (vertex_at b i).inlet ≡ t → ((vertex_at b i).inlet && all_of (is_met classes (set_at leads k) depends i) (outlets_of b))
+        go : (i : ℕ) (t : Bool) → (vertex_at b i).inlet ≡ t → ((vertex_at b i).inlet && all_of (is_met classes (set_at leads k) needs i) (outlets_of b))
             ≡ ((vertex_at b i).inlet && all_of (allows b ps k i) (places b))
         go i false p = rw p refl
         go i true p = ap (λ t. (vertex_at b i).inlet && t) (outlets-all i p (places b) (λ o m. in-below o (length b.vertices) m))
 
     -- so the ways are those of the partition
-    pub ways-same : ways_to (inlets_of b) (outlets_of b) classes leads depends k ≡ ways_of b ps k
-    ways-same = ways-eq (lead-at k there) column-behind entered-entering permitted-allowed
+    pub ways-same : (needs : List (List ℕ)) → HaveInlets b needs → ways_to (inlets_of b) (outlets_of b) classes leads needs k ≡ ways_of b ps k
+    ways-same needs needed = ways-eq (lead-at k there) column-behind entered-entering (permitted-allowed needs needed)
       where
         made : List ℕ → List ℕ → List ℕ → List ℕ → Ways
         made a d f h = record { ahead = a; behind = d; entering = f; allowed = h }
@@ -258,11 +262,16 @@ module _ (b : BlockGraph) (graph : IsBlockGraph b) (ps : Parts) (whole : IsParti
   outlets_there outs names p q = filtered_there (λ x. (vertex_at b x).outlet) (length b.vertices) outs names p (classes-count names q)
 
   -- the ways read from them are those of the partition
-  pub are_ways : (ins outs names : List ℕ) (sets needs : List (List ℕ)) (k : ℕ) → ins ≡ inlets_of b → outs ≡ outlets_of b → names ≡ classes → sets ≡ leads
-      → needs ≡ depends → k < length ps → ways_to ins outs names sets needs k ≡ ways_of b ps k
-  are_ways ins outs names sets needs k i o p q r h = subst₂ (λ is os. ways_to is os names sets needs k ≡ ways_of b ps k) (sym i) (sym o)
-      (ap (λ xs. ways_to (inlets_of b) (outlets_of b) xs sets needs k) p ∙ (ap (λ xs. ways_to (inlets_of b) (outlets_of b) classes xs needs k) q
-      ∙ (ap (λ xs. ways_to (inlets_of b) (outlets_of b) classes leads xs k) r ∙ ways-same k h)))
+  pub are_ways : (ins outs names : List ℕ) (sets needs : List (List ℕ)) → ins ≡ inlets_of b → outs ≡ outlets_of b → names ≡ classes → sets ≡ leads
+      → HaveInlets b needs → map (ways_to ins outs names sets needs) (below (length sets)) ≡ map (ways_of b ps) (below (length ps))
+  are_ways ins outs names sets needs i o p q needed = ap (λ m. map (ways_to ins outs names sets needs) (below m)) (leads-count sets q)
+      ∙ map-below (ways_to ins outs names sets needs) (ways_of b ps) (length ps) (λ k h. subst₂ (λ is os. ways_to is os names sets needs k ≡ ways_of b ps k)
+      (sym i) (sym o) (ap (λ xs. ways_to (inlets_of b) (outlets_of b) xs sets needs k) p ∙ (ap (λ xs. ways_to (inlets_of b) (outlets_of b) classes xs needs k) q
+      ∙ ways-same k h needs needed)))
+
+  -- where the table is that of the dependences
+  pub depends-inlets : (needs : List (List ℕ)) → needs ≡ depends → HaveInlets b needs
+  depends-inlets needs e i o h l = ap (λ ss. has (set_at ss o) i) e ∙ depends-has i o h l
 
 -- what stands at the place of a class in the table of ways
 pub way-read : (b : BlockGraph) (ps : Parts) (ways : List Ways) (k : ℕ) (w : Ways) → ways ≡ map (ways_of b ps) (below (length ps)) → k < length ps

@@ -1,5 +1,5 @@
 -- Lists and sets that grow by one number, and what stands at a place of a list that has an entry for each number.
-use Rattle.std.proofs.Common.{◌≡◌, ℕ, zero, suc, ◌+◌, ◌<◌, ◌≤◌, List, [], ◌∷◌, ◌++◌, Bool, true, false, ◌&&◌, refl, sym, ap, subst, arith, ◌∙◌, true≢false, ◌==◌, ◌||◌}
+use Rattle.std.proofs.Common.{◌≡◌, ℕ, zero, suc, ◌+◌, ◌<◌, ◌≤◌, List, [], ◌∷◌, ◌++◌, Bool, true, false, ◌&&◌, refl, sym, ap, ap₂, subst, inl, inr, arith, ◌∙◌, true≢false, ◌==◌, ◌||◌}
 use Rattle.std.proofs.Common.{length, map, filter, get_or, take, slice_get}
 use Rattle.std.proofs.lemmas.List.{map-append, append-nil, get_or-map, ext_get_or, take_more}
 use Rattle.std.proofs.lemmas.List.Elements.{filter-append}
@@ -7,7 +7,7 @@ use Rattle.std.proofs.lemmas.Option.{get_or_from_slice_get, slice_get-get_or}
 use Rattle.std.specs.List.{list_any}
 use Rattle.tam_word.specs.Lists.{below, all_of, any_of, has}
 use Rattle.tam_word.proofs.Tests.{number-eq, eq-number}
-use Rattle.tam_word.proofs.Members.{in-has, in-any, get-in}
+use Rattle.tam_word.proofs.Members.{In, in-below, in-has, in-any, get-in}
 use Rattle.tam_graph.specs.Edges.{Edges, reaches}
 use Rattle.tam_split.specs.declared.vertex.Vertex.{Vertex}
 use Rattle.tam_split.specs.Blocks.{BlockGraph, vertex_at, or_vertex}
@@ -49,7 +49,7 @@ pub length-table : {X : Type 0} (f : ℕ → X) (n : ℕ) → length (map f (bel
 length-table f n = length-map f (below n) ∙ length-below n
 
 -- the number below n at place k is k
-get-number : (n k : ℕ) → k < n → get_or (below n) k 0 ≡ k
+pub get-number : (n k : ℕ) → k < n → get_or (below n) k 0 ≡ k
 get-number n k h = get_or_from_slice_get (below n) k k 0 (below-get n k h)
 
 -- and that of k stands at place k
@@ -57,6 +57,14 @@ pub get-table : {X : Type 0} (f : ℕ → X) (n k : ℕ) (d : X) → k < n → g
 get-table f n k d h =
     let l : k < length (below n) = subst (λ m. k < m) (sym (length-below n)) h in
     get_or-map f (below n) k 0 d l ∙ ap f (get-number n k h)
+
+-- what functions that agree on the numbers below n make of them
+pub map-below : {X : Type 0} (f g : ℕ → X) (n : ℕ) → ((k : ℕ) → k < n → f k ≡ g k) → map f (below n) ≡ map g (below n)
+map-below {X} f g n h = go (below n) (λ k i. h k (in-below k n i))
+  where
+    go : (ks : List ℕ) → ((k : ℕ) → In k ks → f k ≡ g k) → map f ks ≡ map g ks
+    go [] i = refl
+    go (k ∷ ks) i = ap₂ (λ (x : X) xs. x ∷ xs) (i k (inl refl)) (go ks (λ j m. i j (inr m)))
 
 -- a list with the right entries is the table
 pub table-is : (sets : List (List ℕ)) (f : ℕ → List ℕ) (n : ℕ) → length sets ≡ n → ((k : ℕ) → k < n → set_at sets k ≡ f k) → sets ≡ map f (below n)

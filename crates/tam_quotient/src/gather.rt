@@ -2,6 +2,7 @@
 ghost use Rattle.std.specs.Prelude.{◌≡◌, ◌<◌, ◌≤◌, All, length, map, IfOk};
 ghost use Rattle.tam_word.specs.Lists.{below, has};
 ghost use Rattle.tam_split.specs.Blocks.{places, inlets_of, outlets_of, dependences};
+ghost use Rattle.tam_split.specs.Partitions.{single};
 ghost use Rattle.tam_split.specs.PartitionLaws.{IsPartition};
 ghost use Rattle.tam_sets.specs.Sets.{places_where};
 ghost use Rattle.tam_quotient.specs.Tables.{column, entered, permitted};
@@ -29,13 +30,52 @@ pub fn quotient(
 {
     let classes = classes_of(alloc, b, p)?;
     let leads = spread(alloc, b.edges(), &classes, p.classes())?;
+    let columns = columns(alloc, &leads)?;
     let inlets = inlets(alloc, b)?;
     let outlets = outlets(alloc, b)?;
-    let mut ways = Vec::new(alloc);
-    for k in 0..p.classes() {
-        ways.push(ways_to(&inlets, &outlets, &classes, &leads, depends, k))?;
-    }
+    let ways = each_way(
+        alloc, &inlets, &outlets, &classes, &leads, &columns, depends,
+    )?;
     Ok(ways)
+}
+
+/// The ways to each place of a block and from it, where each class is one place.
+///
+/// The inlets on which a vertex depends are those of the places that lead to it, so they need not be given.
+pub fn ways_alone(alloc: Global, b: &BlockGraph) -> Result<Vec<Ways>, NoMemory>
+    ensures value { IfOk result (λ ways. ways.items ≡ map (ways_of b.now (single (length b.now.vertices))) (below (length b.now.vertices))) }
+{
+    let count = b.vertices().len() as u32;
+    let names = numbers(alloc, count)?;
+    let leads = spread(alloc, b.edges(), &names, count)?;
+    let columns = columns(alloc, &leads)?;
+    let inlets = inlets(alloc, b)?;
+    let outlets = outlets(alloc, b)?;
+    let ways = each_way(alloc, &inlets, &outlets, &names, &leads, &columns, &columns)?;
+    Ok(ways)
+}
+
+// The numbers below n.
+fn numbers(alloc: Global, n: u32) -> Result<Vec<u32>, NoMemory>
+    ensures value { IfOk result (λ numbers. numbers.items ≡ below n) }
+{
+    let mut numbers = Vec::new(alloc);
+    for k in 0..n {
+        numbers.push(k)?;
+    }
+    Ok(numbers)
+}
+
+// For each class the classes that lead to it.
+fn columns(alloc: Global, leads: &[Set]) -> Result<Vec<Set>, NoMemory>
+    requires few { length leads.now ≤ 512 }
+    ensures value { IfOk result (λ columns. columns.items ≡ map (column leads.now) (below (length leads.now))) }
+{
+    let mut columns = Vec::new(alloc);
+    for k in 0..leads.len() as u32 {
+        columns.push(behind(leads, k))?;
+    }
+    Ok(columns)
 }
 
 // The places of the inlets of a block.
@@ -64,12 +104,37 @@ fn outlets(alloc: Global, b: &BlockGraph) -> Result<Vec<u32>, NoMemory>
     Ok(outlets)
 }
 
-// The ways to class k and from it, by the class of each place and by what each class leads to.
+// The ways to each class and from it, by the class of each place, by what each class leads to and by what leads to it.
+fn each_way(
+    alloc: Global,
+    inlets: &[u32],
+    outlets: &[u32],
+    classes: &[u32],
+    leads: &[Set],
+    columns: &[Set],
+    depends: &[Set],
+) -> Result<Vec<Ways>, NoMemory>
+    requires few { (length leads.now ≤ 512) × (length classes.now ≤ 512) }
+    requires inlets { All (λ place. place < length classes.now) inlets.now }
+    requires outlets { All (λ place. place < length classes.now) outlets.now }
+    requires columns { columns.now ≡ map (column leads.now) (below (length leads.now)) }
+    requires depends { length depends.now ≡ length classes.now }
+    ensures value { IfOk result (λ ways. ways.items ≡ map (ways_to inlets.now outlets.now classes.now leads.now depends.now) (below (length leads.now))) }
+{
+    let mut ways = Vec::new(alloc);
+    for k in 0..leads.len() as u32 {
+        ways.push(ways_to(inlets, outlets, classes, leads, columns, depends, k))?;
+    }
+    Ok(ways)
+}
+
+// The ways to class k and from it.
 fn ways_to(
     inlets: &[u32],
     outlets: &[u32],
     classes: &[u32],
     leads: &[Set],
+    columns: &[Set],
     depends: &[Set],
     k: u32,
 ) -> Ways
@@ -77,11 +142,12 @@ fn ways_to(
     requires there { k < length leads.now }
     requires inlets { All (λ place. place < length classes.now) inlets.now }
     requires outlets { All (λ place. place < length classes.now) outlets.now }
+    requires columns { columns.now ≡ map (column leads.now) (below (length leads.now)) }
     requires depends { length depends.now ≡ length classes.now }
     ensures value { result ≡ ways_to inlets.now outlets.now classes.now leads.now depends.now k }
 {
     let ahead = leads[k as usize];
-    let behind = behind(leads, k);
+    let behind = columns[k as usize];
     Ways {
         ahead,
         behind,

@@ -10,6 +10,6 @@ mod spread;
 mod validity;
 mod ways;
 
-pub use gather::quotient;
+pub use gather::{quotient, ways_alone};
 pub use validity::is_valid;
 pub use ways::Ways;

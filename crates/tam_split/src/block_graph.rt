@@ -2,6 +2,7 @@
 ghost use Rattle.std.specs.Prelude.{◌≡◌, ◌≤◌, ◌<◌, length, IfOk};
 ghost use Rattle.tam_graph.specs.Graphs.{code_of};
 ghost use Rattle.tam_split.specs.Blocks.{block_graph};
+ghost use Rattle.tam_split.specs.KeptParts.{IsSmallBlock};
 ghost use Rattle.tam_split.specs.PartitionLaws.{IsBlockGraph};
 
 use crate::Vertex;
@@ -43,6 +44,16 @@ pub fn split(alloc: Global, g: &Accepted, code: u32, block: u32) -> Result<Block
 }
 
 impl BlockGraph {
+    /// The graph of these vertices and edges.
+    ///
+    /// Edges that all go to higher places make no cycle: `specs/RisingEdges.antt`.
+    pub fn of(vertices: Vec<Vertex>, edges: Vec<(u32, u32)>) -> BlockGraph
+        requires block { IsSmallBlock (record { vertices = vertices.items; edges = edges.items }) }
+        ensures value { result ≡ record { vertices = vertices.items; edges = edges.items } }
+    {
+        BlockGraph { vertices, edges }
+    }
+
     pub fn vertices(&self) -> &[Vertex]
         ensures value { result.now ≡ self.now.vertices }
         ensures few { length self.now.vertices ≤ 512 }

@@ -1,8 +1,8 @@
-use Rattle.std.proofs.Common.{◌≡◌, ◌<◌, ◌∙◌, ap, sym, subst, length, map, arith, suc, List, ℕ, Option, None, IsNone, rules}
+use Rattle.std.proofs.Common.{◌≡◌, ◌∙◌, ap, sym, subst, length, map, arith, suc, List, ℕ, Option, None, IsNone, rules}
 use Rattle.std.specs.Vec.{with_items}
 use Rattle.std.proofs.lemmas.List.{with_items_is}
 use Rattle.tam_word.specs.Lists.{below}
-use Rattle.tam_split.specs.Partitions.{Parts, single, merged, may_merge, least_pair}
+use Rattle.tam_split.specs.Partitions.{Parts, single, merged, may_merge}
 use Rattle.tam_split.proofs.Classes.{partition-parts, length-merged}
 use Rattle.tam_split.proofs.Partitioning.{length-single}
 use Rattle.tam_quotient.specs.declared.ways.Ways.{Ways}
@@ -13,10 +13,6 @@ use Rattle.tam_part.proofs.Shut.{done-merged}
 use Rattle.tam_part.proofs.Standing.{ways-begun}
 use Rattle.tam_part.proofs.Separating.{no_places, none-separated}
 use Rattle.tam_part.proofs.merging.partition.Goals as goal
-
-pub quotient-requires-clause-whole : goal.quotient-requires-clause-whole
-quotient-requires-clause-whole c =
-    (begun c.args.b.now c.vertices.ensures.block c.in_ok-parts.parts (c.in_ok-parts.ensures.value ∙ ap (λ vs. single (length vs)) c.vertices.ensures.value)).whole
 
 pub loop-k-init : goal.loop-k-init
 loop-k-init c =

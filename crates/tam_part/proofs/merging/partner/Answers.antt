@@ -6,7 +6,9 @@ use Rattle.tam_split.specs.Partitions.{Parts, class_of, class_at, may_merge}
 use Rattle.tam_split.specs.PartitionLaws.{IsPartition}
 use Rattle.tam_split.proofs.Classes.{partition-parts}
 use Rattle.tam_quotient.proofs.Surroundings.{few-classes}
-use Rattle.tam_part.specs.Kept.{AreDone}
+use Rattle.tam_split.specs.KeptParts.{AreClasses}
+use Rattle.tam_part.specs.Kept.{AreDone, IsLeast, first_in}
+use Rattle.tam_part.proofs.Leasts.{first-least}
 use Rattle.tam_part.proofs.LeastPairs.{pair-first}
 use Rattle.tam_part.proofs.Standing.{member-class}
 use Rattle.tam_part.proofs.merging.partner.Goals as goal
@@ -31,6 +33,24 @@ one_more test n a before here low = go (a == n) refl
     go : (t : Bool) → (a == n) ≡ t → test a ≡ false
     go true e = subst (λ z. test z ≡ false) (sym (number-eq a n e)) here
     go false e = before (let d = number-differs a n e in omega (arith, low, d))
+
+-- the first place of a class is its least
+least : (b : BlockGraph) (p : Parts) → IsPartition b p → AreClasses p → (k x : ℕ) → k < length p → x ≡ first_in p k → IsLeast p x
+least b p whole kept k x h e = first-least p kept (length b.vertices) (partition-parts b p whole) x k h e
+
+pub joins-requires-clause-least : goal.joins-requires-clause-least
+joins-requires-clause-least c = (
+  least c.args.b.now c.args.p.now c.requires.whole c.requires.kept c.loop-j.j c.place_of.result (omega (arith, c.loop-j-test.true, c.requires.in_range))
+      c.place_of.ensures.value,
+  least c.args.b.now c.args.p.now c.requires.whole c.requires.kept c.args.k c.place_of-place.result c.requires.in_range c.place_of-place.ensures.value,
+)
+
+pub joins-requires-in-loop-l-clause-least : goal.joins-requires-in-loop-l-clause-least
+joins-requires-in-loop-l-clause-least c = (
+  least c.args.b.now c.args.p.now c.requires.whole c.requires.kept c.args.k c.place_of-place.result c.requires.in_range c.place_of-place.ensures.value,
+  least c.args.b.now c.args.p.now c.requires.whole c.requires.kept c.loop-l.l c.place_of-in-loop-l.result
+      (omega (arith, c.loop-l-test.true, c.classes-l-end.ensures.value)) c.place_of-in-loop-l.ensures.value,
+)
 
 pub joins-requires-clause-in_order : goal.joins-requires-clause-in_order
 joins-requires-clause-in_order c =

@@ -13,6 +13,11 @@ abbrev pub way_from : List ℕ → ℕ → List Message → List Message
 way_from arrived n [] = []
 way_from arrived n (m ∷ ms) = elim (has arrived n) [ true ↦ way_from arrived (suc n) ms | false ↦ m ∷ way_from arrived (suc n) ms ]
 
+-- and their numbers
+abbrev pub numbers_from : List ℕ → ℕ → List Message → List ℕ
+numbers_from arrived n [] = []
+numbers_from arrived n (m ∷ ms) = elim (has arrived n) [ true ↦ numbers_from arrived (suc n) ms | false ↦ n ∷ numbers_from arrived (suc n) ms ]
+
 -- ---- the definition's list is this one
 
 -- a list with nothing behind
@@ -138,6 +143,7 @@ pub record AtPlace (arrived : List ℕ) (n : ℕ) (ms : List Message) (k : ℕ) 
   pub was_sent : (j : ℕ) → n + j ≡ number → slice_get ms j ≡ Some m
   pub not_yet : has arrived number ≡ false
   pub taken_out : way_from (number ∷ arrived) n ms ≡ without_place k (way_from arrived n ms)
+  pub stands : slice_get (numbers_from arrived n ms) k ≡ Some number
 
 -- so it is
 pub at-place : (arrived : List ℕ) (n : ℕ) (ms : List Message) (k : ℕ) (m : Message) → slice_get (way_from arrived n ms) k ≡ Some m → AtPlace arrived n ms k m
@@ -151,6 +157,7 @@ at-place arrived n (x ∷ ms) k m h = go (has arrived n) refl k h (λ i e. at-pl
       was_sent = sent;
       not_yet = r.not_yet;
       taken_out = rw (way_from, has-other arrived r.number n (λ e. let l = r.from in omega arith) ∙ p, p) r.taken_out;
+      stands = rw (numbers_from, p) r.stands;
     }
       where
         sent : (i : ℕ) → n + i ≡ r.number → slice_get (x ∷ ms) i ≡ Some m
@@ -164,6 +171,7 @@ at-place arrived n (x ∷ ms) k m h = go (has arrived n) refl k h (λ i e. at-pl
       was_sent = sent;
       not_yet = r.not_yet;
       taken_out = rw (way_from, has-other arrived r.number n (λ e. let l = r.from in omega arith) ∙ p, p) (ap (λ l. x ∷ l) r.taken_out);
+      stands = rw (numbers_from, p) r.stands;
     }
       where
         sent : (i : ℕ) → n + i ≡ r.number → slice_get (x ∷ ms) i ≡ Some m
@@ -177,6 +185,7 @@ at-place arrived n (x ∷ ms) k m h = go (has arrived n) refl k h (λ i e. at-pl
       was_sent = λ j e. sent j (omega arith);
       not_yet = p;
       taken_out = gone;
+      stands = rw (numbers_from, p) refl;
     }
       where
         sent : (j : ℕ) → j ≡ 0 → slice_get (x ∷ ms) j ≡ Some m

@@ -21,7 +21,7 @@ pub record EndsSo (g : Graph) (all : Partitions) (args : List ℕ) (limits : Lim
   pub quiet : how ≡ Quiet → IsQuiet g all args events
   pub double : (s t : ℕ) → how ≡ Double_write s t ↔ ((state_after g all args events).fault ≡ Some (Second_store s t))
   pub outside : (s i l : ℕ) → how ≡ Out_of_range s i l ↔ ((state_after g all args events).fault ≡ Some (Outside_cells s i l))
-  pub frames : (n : ℕ) → how ≡ Frames_full n → (n ≡ limits.frames) × (length (state_after g all args events).world.activations ≡ n)
+  pub frames : (n : ℕ) → how ≡ Frames_full n → (n ≡ limits.frames) × (n ≤ length (state_after g all args events).world.activations)
       × ((c f x : ℕ) × Contains (on_their_way (state_after g all args events)) (Begin c f x))
   pub cells : (u l : ℕ) → how ≡ Cells_full u l → (limits.cells < u + l) × (cells_used (state_after g all args events).world.arrays ≡ u)
       × ((f x : ℕ) × Contains (on_their_way (state_after g all args events)) (Make l f x))

@@ -18,6 +18,7 @@ pub mod SlotNumbers
 pub mod Sources
 pub mod Spenders
 pub mod ThreadKinds
+pub mod ThreadClasses
 pub mod ThreadPlaces
 pub mod CleanNodes
 pub mod CleanCodes

@@ -1,6 +1,7 @@
 -- The thread code of a graph, by thread number.
 -- The rule in words: docs/THREADS.md, "From graph to threads".
-use Rattle.std.specs.Prelude.{ℕ, zero, suc, ◌+◌, ◌*◌, Bool, true, false, ◌&&◌, ◌==◌, List, [], ◌∷◌, ◌++◌, map, filter, flat_map, slice_get, length, count_by, sum_by}
+use Rattle.std.specs.Prelude.{ℕ, zero, suc, ◌+◌, ◌*◌, Bool, true, false, ◌&&◌, ◌==◌, List, [], ◌∷◌, ◌++◌, map, filter, flat_map, slice_get, length}
+use Rattle.std.specs.Prelude.{count_by, sum_by}
 use Rattle.std.specs.Prelude.{zip}
 use Rattle.tam_word.specs.Lists.{below}
 use Rattle.tam_graph.specs.declared.kind.Kind.{Kind}
@@ -180,6 +181,18 @@ yes_of _ = 0
 abbrev pub no_of : Kind → ℕ
 no_of (Cond p y n) = n
 no_of _ = 0
+
+-- the block into which the then connector of a cond or a switch leads
+abbrev pub then_block : Code → Kind → ℕ
+then_block c (Cond p y n) = y
+then_block c (Choose d k a) = yes_of (kind_at c d)
+then_block c _ = 0
+
+-- and the else connector
+abbrev pub else_block : Code → Kind → ℕ
+else_block c (Cond p y n) = n
+else_block c (Choose d k a) = no_of (kind_at c d)
+else_block c _ = 0
 
 -- ---- the threads that won't run where a branch isn't chosen
 

@@ -3,7 +3,8 @@ use Rattle.std.proofs.Common.{◌≡◌, ℕ, true, List, [], ◌∷◌, refl, s
 use Rattle.std.proofs.lemmas.List.{append-nil}
 use Rattle.tam_msgs.specs.declared.message.Message.{Message}
 use Rattle.tam_graph.specs.declared.kind.Kind.{Kind}
-use Rattle.tam_graph.specs.declared.kind.Kind.TheVariants.{Param, Const, Op as Operator, Seq, Call as Invoke, Arg, Ret, Give as Yield, Alloc, Fetch, Store, Cond, Switch as Choose}
+use Rattle.tam_graph.specs.declared.kind.Kind.TheVariants.{Param, Const, Op as Operator, Seq, Call as Invoke, Arg, Ret, Give as Yield, Alloc, Fetch}
+use Rattle.tam_graph.specs.declared.kind.Kind.TheVariants.{Store, Cond, Switch as Choose}
 use Rattle.tam_graph.specs.declared.kind.Kind.TheVariants.{Merge, Enter, Leave}
 use Rattle.tam_graph.specs.Graphs.{Graph, operands_of}
 use Rattle.tam_split.specs.GraphPartitions.{Partitions}

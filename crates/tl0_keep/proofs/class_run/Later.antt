@@ -18,7 +18,8 @@ use Rattle.tam_frames.specs.FrameTables.{frame_at}
 use Rattle.tl0_code.specs.Machines.{Machine}
 use Rattle.tl0_keep.specs.Compiled.{yes_of, no_of, inlet_of}
 use Rattle.tl0_keep.specs.ThreadNames.{inlet_at, thread_message, thread_reader, thread_cell, thread_arrays}
-use Rattle.tl0_keep.proofs.code.ThreadKinds.{ThreadKind, Entry, Class, Then_of, Else_of, Source, Word_of, Behind, Opened, Begun, number_of_thread, IsThread, sources_of, parts_for}
+use Rattle.tl0_keep.proofs.code.ThreadKinds.{ThreadKind, Entry, Class, Then_of, Else_of, Source, Word_of, Behind, Opened, Begun, number_of_thread}
+use Rattle.tl0_keep.proofs.code.ThreadKinds.{IsThread, sources_of, parts_for}
 use Rattle.tl0_keep.proofs.code.ThreadKinds.{takes_messages}
 use Rattle.tl0_keep.proofs.runs.Keeps.{Owed, ticket, parts_in, HasRun, PostedAt, HasEntered, ChoseThen, ChoseElse, ReasonAt, Reason, Given}
 use Rattle.tl0_keep.proofs.runs.Keeps.{ThreadKeeps, IsForMessages, Fits}

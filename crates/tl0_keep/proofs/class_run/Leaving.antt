@@ -7,7 +7,8 @@ use Rattle.tam_word.specs.Lists.{first_of}
 use Rattle.tam_word.proofs.Members.{In}
 use Rattle.tam_graph.specs.declared.kind.Kind.{Kind}
 use Rattle.tam_graph.specs.declared.kind.Kind.TheVariants.{Leave, Enter, Merge}
-use Rattle.tam_graph.specs.Graphs.{Code, Graph, code_of, kind_at, block_at, is_inlet, owner_of, one_or_none, node_where, node_in, node_numbers, is_enter, is_merge}
+use Rattle.tam_graph.specs.Graphs.{Code, Graph, code_of, kind_at, block_at, is_inlet, owner_of, one_or_none, node_where, node_in, node_numbers}
+use Rattle.tam_graph.specs.Graphs.{is_enter, is_merge}
 use Rattle.tam_split.specs.GraphPartitions.{Partitions}
 use Rattle.tam_world.specs.Worlds.{activation_at, its_code, word_of, has_word, got, all_got, merges_of}
 use Rattle.tam_flow.specs.Journals.{State}

@@ -14,7 +14,8 @@ use Rattle.tam_flow.specs.Journals.{State, has_run}
 use Rattle.tam_flow.specs.Reached.{IsThere}
 use Rattle.tl0_code.specs.Machines.{Machine}
 use Rattle.tl0_keep.specs.Compiled.{parts_at, waits_for}
-use Rattle.tl0_keep.proofs.code.ThreadKinds.{ThreadKind, Entry, Class, Then_of, Else_of, Source, Word_of, Behind, Opened, Begun, number_of_thread, IsThread, sources_of}
+use Rattle.tl0_keep.proofs.code.ThreadKinds.{ThreadKind, Entry, Class, Then_of, Else_of, Source, Word_of, Behind, Opened, Begun, number_of_thread}
+use Rattle.tl0_keep.proofs.code.ThreadKinds.{IsThread, sources_of}
 use Rattle.tl0_keep.proofs.code.ThreadKinds.{inlet_nodes_in, classes_to}
 use Rattle.tl0_keep.proofs.runs.Keeps.{Owed, ticket, parts_in, HasRun, PostedAt, ChoseThen, ChoseElse, ReasonAt, Given, Keeps}
 use Rattle.tl0_keep.proofs.code.CodeFacts.{CodeFacts}

@@ -3,7 +3,8 @@ use Rattle.std.proofs.Common.{◌≡◌, ℕ, zero, suc, ◌<◌, true, ◌==◌
 use Rattle.tam_word.proofs.Members.{In, in-filter, in-flat_map}
 use Rattle.tam_word.proofs.Tests.{number-eq, self-eq, differs-number}
 use Rattle.tam_graph.specs.declared.kind.Kind.TheVariants.{Cond, Switch as Choose, Enter}
-use Rattle.tam_graph.specs.Graphs.{Code, Graph, code_of, kind_at, block_at, is_inlet, owner_of, node_where, node_in, nodes_in, node_numbers, is_enter, is_switch}
+use Rattle.tam_graph.specs.Graphs.{Code, Graph, code_of, kind_at, block_at, is_inlet, owner_of, node_where, node_in, nodes_in, node_numbers, is_enter}
+use Rattle.tam_graph.specs.Graphs.{is_switch}
 use Rattle.tam_graph.specs.Graphs.{chosen_branch, branch_of_kind, test_of}
 use Rattle.tam_split.specs.GraphPartitions.{Partitions}
 use Rattle.tam_world.specs.Worlds.{World, activation_at, its_code, has_word, all_got}

@@ -1,5 +1,5 @@
 -- In a block no more pairs of classes are directly one before the other than its vertices take values.
-use Rattle.std.proofs.Common.{◌≡◌, ℕ, ◌+◌, ◌*◌, ◌≤◌, [], ◌∷◌, Bool, true, false, not, ◌==◌, ◌&&◌, List, map, filter, flat_map, length, slice_get, Some}
+use Rattle.std.proofs.Common.{◌≡◌, ℕ, ◌*◌, ◌≤◌, [], ◌∷◌, Bool, true, false, not, ◌==◌, ◌&&◌, List, map, filter, flat_map, length, slice_get, Some}
 use Rattle.std.proofs.Common.{refl, sym, ap, subst, ◌∙◌, arith}
 use Rattle.std.specs.List.{sum_by}
 use Rattle.std.proofs.lemmas.Option.{slice_get_within}

@@ -1,10 +1,10 @@
 -- How many instructions the thread code of an accepted graph has at most.
-use Rattle.std.proofs.Common.{◌≡◌, ℕ, ◌+◌, ◌*◌, ◌<◌, ◌≤◌, Bool, true, false, ◌==◌, List, [], ◌∷◌, ◌++◌, map, filter, flat_map, length, refl, ap, arith}
+use Rattle.std.proofs.Common.{◌≡◌, ℕ, ◌+◌, ◌*◌, ◌<◌, ◌≤◌, Bool, true, false, ◌==◌, List, [], ◌∷◌, ◌++◌, map, flat_map, length, refl, ap, arith}
 use Rattle.std.proofs.Common.{inl, inr}
 use Rattle.std.specs.List.{sum_by}
 use Rattle.std.proofs.lemmas.List.{length-append, length-map}
 use Rattle.std.proofs.lemmas.List.Sums.{sum_by-cons, sum_by-append, length-filter, count_by-le-length}
-use Rattle.std.proofs.Math.Nat.{mul-le-mul_right, suc-mul, mul-add}
+use Rattle.std.proofs.Math.Nat.{suc-mul, mul-add}
 use Rattle.tam_word.specs.Lists.{below}
 use Rattle.tam_word.proofs.Sifted.{first_of-one}
 use Rattle.tam_word.proofs.Tests.{below-test, test-below}
@@ -20,7 +20,7 @@ use Rattle.tam_graph.proofs.FewPlaces.{few-distinct}
 use Rattle.tam_graph.proofs.FewNodes.{length-below}
 use Rattle.tam_split.specs.declared.vertex.Vertex.{Vertex}
 use Rattle.tam_split.specs.Blocks.{block_graph, vertex_at}
-use Rattle.tam_split.specs.Partitions.{Parts, class_at, directly_before}
+use Rattle.tam_split.specs.Partitions.{Parts, class_at}
 use Rattle.tam_split.specs.GraphPartitions.{firing_order}
 use Rattle.tam_split.proofs.Classes.{partition-parts, in-class_at}
 use Rattle.tam_split.proofs.Vertices.{number_of_vertices-length}

@@ -18,7 +18,8 @@ use Rattle.tam_flow.proofs.Pairs.{fires-once}
 use Rattle.tl0_code.specs.declared.instr.Instr.{Instr}
 use Rattle.tl0_code.specs.declared.instr.Instr.TheVariants.{Imm, Mov, Op as Operate, Fork, Switch, Falloc, Send, Ret, Ialloc, Ifetch, Istore, Skip}
 use Rattle.tl0_keep.specs.Compiled.{parts_at, instrs_of, vertex_instrs, forks_to, is_choosing, entry_classes, yes_of, no_of}
-use Rattle.tl0_keep.proofs.code.ThreadKinds.{AreParts, ThreadKind, Entry, Class, Then_of, Else_of, IsThread, number_of_thread, thread_for, then_thread, else_thread}
+use Rattle.tl0_keep.proofs.code.ThreadKinds.{AreParts, ThreadKind, Entry, Class, Then_of, Else_of, IsThread, number_of_thread, thread_for}
+use Rattle.tl0_keep.proofs.code.ThreadKinds.{then_thread, else_thread}
 use Rattle.tl0_keep.proofs.code.ThreadKinds.{merges_of}
 use Rattle.tl0_keep.proofs.code.ThreadNumbers.{number-one}
 use Rattle.tl0_keep.proofs.code.Sources.{class-inside}

@@ -1,8 +1,8 @@
 -- The report of a run of threads is borne out, from the laws on each form of the run.
 use Rattle.std.proofs.Common.{◌≡◌, ℕ, zero, suc, ◌+◌, ◌≤◌, List, length, Option, Some, None}
 use Rattle.std.proofs.Common.{refl, ap, sym, ◌∙◌, subst, arith, inl, inr}
-use Rattle.std.specs.Prelude.{count_by}
-use Rattle.std.proofs.lemmas.List.Sums.{count_by-le-length}
+use Rattle.std.specs.Prelude.{count_by, map, sum}
+use Rattle.std.proofs.lemmas.List.Sums.{count_by-le-length, sum-map}
 use Rattle.tam_word.proofs.Members.{In, in-map, get-in}
 use Rattle.tam_graph.specs.Graphs.{Graph}
 use Rattle.tam_split.specs.GraphPartitions.{partitions}
@@ -12,6 +12,7 @@ use Rattle.tam_msgs.specs.declared.item.Item.{Item}
 use Rattle.tam_msgs.specs.declared.limits.Limits.{Limits}
 use Rattle.tam_msgs.specs.Messages.{outside}
 use Rattle.tam_msgs.specs.Runs.{End, Frames_full, run_from}
+use Rattle.tam_istr.specs.Cells.{Arrays, cells_used}
 use Rattle.tam_world.specs.Worlds.{World}
 use Rattle.tam_flow.specs.Journals.{state_after, on_their_way}
 use Rattle.tam_flow.specs.BorneOut.{BearsOut, IsBorneOut, WantsActivation}
@@ -22,11 +23,13 @@ use Rattle.tl0_code.specs.ThreadCode.{Program}
 use Rattle.tl0_code.specs.Machines.{Machine, Giving, spend_of}
 use Rattle.tl0_code.specs.ThreadRuns.{step_of, thread_opening, nothing_begun, with_frame, or_machine, thread_report, thread_told}
 use Rattle.tl0_keep.specs.Compiled.{compiled}
-use Rattle.tl0_keep.specs.Renamed.{renamed_message}
-use Rattle.tl0_keep.specs.ThreadNames.{thread_message}
+use Rattle.tl0_keep.specs.Renamed.{renamed_cell, renamed_message}
+use Rattle.tl0_keep.specs.ThreadNames.{thread_message, thread_arrays}
 use Rattle.tl0_keep.specs.ThreadLaws.{IsJob, EndsWithin, PlainStatesAreJournals, PlainEndsAreJournals, OwingIsPlain, OwingEndsPlainly, NoSkipIsWild}
 use Rattle.tl0_keep.specs.ThreadLaws.{GivingIsRenaming, EndsRenamed, IsRefused, GivingEndsSo, ThreadRunsAreBorneOut, ThreadRunsAreRight}
+use Rattle.tl0_keep.proofs.runs.Told.{used-told}
 use Rattle.tl0_keep.proofs.giving.Places.{in-contains}
+use Rattle.tl0_keep.proofs.giving.CellsRenamed.{cells-renamed}
 use Rattle.tl0_keep.proofs.giving.Counted.{events-within, run-after}
 use Rattle.tl0_keep.proofs.giving.Texts.{results-same}
 use Rattle.tl0_keep.proofs.giving.Refusals.{step-wished}
@@ -64,6 +67,13 @@ journal-wish g w (Put_cell a l v s) c f i e = absurd cc
 live-few : (hs : List (Option Frame)) → count_by is_held hs ≤ length hs
 live-few hs = count_by-le-length is_held hs
 
+-- ---- cells
+
+-- as many cells where readers are renamed
+renamed-used : (numbers : List ℕ) (arrays : Arrays) → cells_used (map (map (renamed_cell numbers)) arrays) ≡ cells_used arrays
+renamed-used numbers arrays = sym (sum-map length (map (map (renamed_cell numbers)) arrays))
+    ∙ (ap sum (cells-renamed numbers arrays) ∙ sum-map length arrays)
+
 -- ---- the opening
 
 spend-events : (k : Machine) (f t : ℕ) (c : Option ℕ) (before : Machine) → before.events ≡ k.events → (or_machine before (spend_of k f t c)).events ≡ k.events
@@ -76,6 +86,12 @@ pub opening-events : (p : Program) (args : List ℕ) (order : List Item) → (th
 opening-events p args order = spend-events (with_frame p (nothing_begun args order) p.main outside 0) 0 0 _ (nothing_begun args order) refl
 
 module _ (laws : AreLaws) (g : Graph) (args : List ℕ) (order : List Item) (limits : Limits) (job : IsJob g args limits) where
+  -- as many cells as the journal's
+  same-used : (w : World) (m : Machine) (numbers : List ℕ) (other k : Machine) → thread_arrays g w w.arrays ≡ k.arrays → other.arrays ≡ k.arrays
+      → m.arrays ≡ map (map (renamed_cell numbers)) other.arrays → cells_used w.arrays ≡ cells_used m.arrays
+  same-used w m numbers other k told same renamed = sym (used-told g w w.arrays)
+      ∙ (ap cells_used (told ∙ sym same) ∙ (sym (renamed-used numbers other.arrays) ∙ ap cells_used (sym renamed)))
+
   -- an end that isn't a refusal
   ends-renamed : (n : ℕ) (how : End) (m : Machine) → EndsRenamed g args order limits n how m
       → IsBorneOut g (partitions g) args limits (thread_report (compiled g) (how, m))
@@ -84,10 +100,14 @@ module _ (laws : AreLaws) (g : Graph) (args : List ℕ) (order : List Item) (lim
       let j = laws.ends g args order limits n how plain.0 job plain.1 in
       let printed : m.printed ≡ plain.0.printed = r.renamed.printed ∙ ap (λ (y : Machine). y.printed) plain.2 in
       let events : m.events ≡ plain.0.events = r.renamed.events ∙ ap (λ (y : Machine). y.events) plain.2 in
+      let begun : m.begun ≡ plain.0.begun = r.renamed.begun ∙ ap (λ (y : Machine). y.begun) plain.2 in
+      let w = (state_after g (partitions g) args j.events).world in
       record {
         events = j.events;
         journal = j.journal;
         printed = j.printed ∙ sym printed;
+        activations = j.activations ∙ sym begun;
+        cells = same-used w m r.numbers r.other plain.0 j.arrays (ap (λ (y : Machine). y.arrays) plain.2) r.renamed.arrays;
         results = results-same g job.accepted;
         ends = subst (λ e. BearsOut g (partitions g) args limits j.events e how) (sym events) j.ends;
         charged = subst (IsCharged g (partitions g) (state_after g (partitions g) args j.events)) (sym events) j.charged;
@@ -120,8 +140,11 @@ module _ (laws : AreLaws) (g : Graph) (args : List ℕ) (order : List Item) (lim
         events = j.events;
         journal = j.journal;
         printed = j.shares.printed ∙ sym printed;
+        activations = activations ∙ sym (w.begun ∙ begun);
+        cells = same-used s.world f.before r.numbers r.other plain.0 j.shares.arrays (ap (λ (y : Machine). y.arrays) plain.2) r.renamed.arrays
+            ∙ ap cells_used (sym w.arrays);
         results = results-same g job.accepted;
-        ends = (refl, omega arith, wants);
+        ends = (refl, omega arith, wants, j.shares.no_fault);
         charged = subst (IsCharged g (partitions g) s) (sym events) (j.charged_wish wants);
       }
 

@@ -13,7 +13,8 @@ use Rattle.tam_msgs.specs.Messages.{outside, AreLimits}
 use Rattle.tam_istr.specs.Cells.{Cell, Empty, Filled, Reader}
 use Rattle.tam_graph.specs.declared.kind.Kind.{Kind}
 use Rattle.tam_graph.specs.declared.kind.Kind.TheVariants.{Cond, Switch as Choose, Enter}
-use Rattle.tam_graph.specs.Graphs.{Code, Graph, code_of, kind_at, block_at, owner_of, node_in, nodes_in, node_numbers, is_enter, is_inlet, operands_of, chosen_branch, branch_of_kind, results_of, AreArguments}
+use Rattle.tam_graph.specs.Graphs.{Code, Graph, code_of, kind_at, block_at, owner_of, node_in, nodes_in, node_numbers, is_enter, is_inlet}
+use Rattle.tam_graph.specs.Graphs.{operands_of, chosen_branch, branch_of_kind, results_of, AreArguments}
 use Rattle.tam_graph.specs.Accepted.{IsAccepted}
 use Rattle.tam_graph.proofs.AcceptedFacts.{node-there}
 use Rattle.tam_split.specs.GraphPartitions.{partitions, are_valid}
@@ -42,7 +43,8 @@ use Rattle.tl0_keep.specs.ThreadNames.{thread_message, thread_reader, thread_cel
 use Rattle.tl0_keep.specs.ThreadLaws.{IsJob, IsAfter, NoSkipIsWild, DoneIsDone}
 use Rattle.tl0_keep.proofs.code.Facts.{code-facts}
 use Rattle.tl0_keep.proofs.code.RisingClasses.{partitions-parts}
-use Rattle.tl0_keep.proofs.code.ThreadKinds.{ThreadKind, Entry, Class, Then_of, Else_of, Source, Word_of, Begun, IsThread, number_of_thread, sources_of, parts_for, then_block, else_block}
+use Rattle.tl0_keep.proofs.code.ThreadKinds.{ThreadKind, Entry, Class, Then_of, Else_of, Source, Word_of, Begun, IsThread, number_of_thread}
+use Rattle.tl0_keep.proofs.code.ThreadKinds.{sources_of, parts_for, then_block, else_block}
 use Rattle.tl0_keep.proofs.code.ThreadKinds.{inlet_thread, takes_messages}
 use Rattle.tl0_keep.proofs.runs.Keeps.{Keeps, Given, PostedAt, ChoseThen, ChoseElse, HasEntered, parts_in, IsForMessages, Fits}
 use Rattle.tl0_keep.proofs.code.CodeFacts.{CodeFacts, TextFacts}
@@ -50,7 +52,8 @@ use Rattle.tl0_keep.proofs.runs.Journey.{Here, journal, reached}
 use Rattle.tl0_keep.proofs.runs.Arrives.{found, was-sent}
 use Rattle.tl0_keep.proofs.runs.Delivering.{code-same}
 use Rattle.tl0_keep.proofs.runs.PlainRuns.{some-source}
-use Rattle.tl0_keep.proofs.class_run.MayRun.{fired-entered, owner-fired, inlet-entered, zero-spent, class-entered}
+use Rattle.tl0_keep.proofs.class_run.Entered.{fired-entered, owner-fired, inlet-entered}
+use Rattle.tl0_keep.proofs.class_run.MayRun.{zero-spent, class-entered}
 use Rattle.tl0_keep.proofs.class_run.Stands.{switch-stands}
 use Rattle.tl0_keep.proofs.owed.Skipped.{home}
 use Rattle.tl0_keep.proofs.owed.Tables.{held-ready, held-there}
@@ -76,16 +79,16 @@ module _ (g : Graph) (accepted : IsAccepted g) (args : List ℕ) (arguments : Ar
   abbrev s : State
   s = state_after g (partitions g) args here.events
 
-  facts : CodeFacts g (partitions g)
+  pub facts : CodeFacts g (partitions g)
   facts = code-facts g accepted
 
-  keeps : Keeps g (partitions g) m (state_after g (partitions g) args here.events) here.others []
+  pub keeps : Keeps g (partitions g) m (state_after g (partitions g) args here.events) here.others []
   keeps = here.rests.keeps
 
   its-journal : IsJournal g (partitions g) args here.events
   its-journal = journal g accepted (partitions g) valid args arguments limits ranges m here
 
-  is-reached : IsReached g (partitions g) args (state_after g (partitions g) args here.events)
+  pub is-reached : IsReached g (partitions g) args (state_after g (partitions g) args here.events)
   is-reached = reached g accepted (partitions g) valid args arguments limits ranges m here
 
   once : IsOnceState g args (partitions g) (state_after g (partitions g) args here.events)
@@ -94,7 +97,7 @@ module _ (g : Graph) (accepted : IsAccepted g) (args : List ℕ) (arguments : Ar
   words : IsWordState g (partitions g) (state_after g (partitions g) args here.events)
   words = words-journal g (partitions g) args here.events its-journal
 
-  state : IsKeptState g (partitions g) (state_after g (partitions g) args here.events)
+  pub state : IsKeptState g (partitions g) (state_after g (partitions g) args here.events)
   state = kept-journal g (partitions g) args here.events its-journal (one-word-each g (partitions g) args here.events its-journal)
 
   stands : (i y d k a : ℕ) → HasFired g (partitions g) s i y → kind_of g s.world i y ≡ Choose d k a → HasFired g (partitions g) s i d
@@ -107,10 +110,10 @@ module _ (g : Graph) (accepted : IsAccepted g) (args : List ℕ) (arguments : Ar
     abbrev c : Code
     c = its_code g (state_after g (partitions g) args here.events).world i
 
-    known : (activation_at (state_after g (partitions g) args here.events).world i).code < length g.codes
+    pub known : (activation_at (state_after g (partitions g) args here.events).world i).code < length g.codes
     known = keeps.frames.known i there
 
-    text : TextFacts g (its_code g s.world i) (parts_in g (partitions g) s here.others i) (code_text (plain (compiled_with g (partitions g)))
+    pub text : TextFacts g (its_code g s.world i) (parts_in g (partitions g) s here.others i) (code_text (plain (compiled_with g (partitions g)))
         (activation_at s.world i).code)
     text = facts.texts (activation_at s.world i).code known
 
@@ -134,7 +137,7 @@ module _ (g : Graph) (accepted : IsAccepted g) (args : List ℕ) (arguments : Ar
         one (inr q) = absurd q
 
     -- a thread with nothing left to wait for runs for a block that is entered
-    home-open : (n : ThreadKind) → IsThread c (parts_in g (partitions g) s here.others i) n
+    pub home-open : (n : ThreadKind) → IsThread c (parts_in g (partitions g) s here.others i) n
         → slice_get (frame_at m.table i).counts (number_of_thread c (parts_in g (partitions g) s here.others i) n) ≡ Some 0 → Open (home c n)
     home-open n h z = by n h (given n h z)
       where
@@ -174,12 +177,12 @@ module _ (g : Graph) (accepted : IsAccepted g) (args : List ℕ) (arguments : Ar
         by (Else_of x) h f = else-open x (kind_at c x) refl (f Begun (inl refl)).reason
 
     -- the block of the cond of an entered block is entered
-    up-open : (v d : ℕ) → owner_of c v ≡ d ∷ [] → Open v → Open (block_at c d)
+    pub up-open : (v d : ℕ) → owner_of c v ≡ d ∷ [] → Open v → Open (block_at c d)
     up-open v d o h = fired-entered g args accepted (partitions g) facts s once words state is-reached stands i d
         (owner-fired g args accepted (partitions g) facts s once words state is-reached stands i there v d o h)
 
     -- an entered branch is the one that the cond's word chose
-    branch-chosen : (b x p y z : ℕ) → kind_at c x ≡ Cond p y z → owner_of c b ≡ x ∷ [] → 0 < b → Open b
+    pub branch-chosen : (b x p y z : ℕ) → kind_at c x ≡ Cond p y z → owner_of c b ≡ x ∷ [] → 0 < b → Open b
         → (v : ℕ) × (word_of s.world i p ≡ v ∷ []) × (chosen_branch c x v ≡ b)
     branch-chosen b x p y z e o high h = ⊎_elim (λ q. absurd (above-zero b q high)) branch (state.kept.blocks i b there h)
       where
@@ -203,7 +206,7 @@ module _ (g : Graph) (accepted : IsAccepted g) (args : List ℕ) (arguments : Ar
             of u k vs f w have = absurd w
 
     -- one branch at most is entered
-    one-open : (x p y z : ℕ) → kind_at c x ≡ Cond p y z → Open y → Open z → ⊥
+    pub one-open : (x p y z : ℕ) → kind_at c x ≡ Cond p y z → Open y → Open z → ⊥
     one-open x p y z e h j =
         let b = text.branches x p y z e in
         let q = branch-chosen y x p y z e b.0 b.3 h in

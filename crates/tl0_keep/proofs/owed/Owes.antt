@@ -11,20 +11,16 @@ use Rattle.tam_split.specs.GraphPartitions.{Partitions}
 use Rattle.tam_world.specs.Worlds.{has_entered}
 use Rattle.tam_flow.specs.Journals.{State}
 use Rattle.tam_frames.specs.FrameTables.{FrameTable, frame_at}
-use Rattle.tl0_code.specs.ThreadCode.{Program, code_text}
+use Rattle.tl0_code.specs.ThreadCode.{Program, code_text, counts_of}
 use Rattle.tl0_code.specs.Machines.{Machine, code_at}
 use Rattle.tl0_keep.specs.ThreadNames.{names_of}
+pub use Rattle.tl0_keep.specs.OwedThreads.{Beneath, The_same, Deeper}
 use Rattle.tl0_keep.proofs.code.ThreadKinds.{ThreadKind, Then_of, Else_of, IsThread, number_of_thread, parts_for, then_block, else_block}
 use Rattle.tl0_keep.proofs.runs.Spending.{distinct-within}
 use Rattle.tl0_keep.proofs.owed.Skipped.{home}
-use Rattle.tl0_keep.proofs.owed.Tables.{IsRun, Goes}
+use Rattle.tl0_keep.proofs.owed.Tables.{IsRun, Goes, ran-on, ran-back}
 
 -- ---- blocks inside blocks
-
--- block v is block u, or stands in it at some depth
-pub data Beneath (c : Code) (u : ℕ) : ℕ → Type 0 where
-  The_same : Beneath c u u
-  Deeper : {v d : ℕ} → owner_of c v ≡ d ∷ [] → Beneath c u (block_at c d) → Beneath c u v
 
 -- an owner alone
 head-one : {i j : ℕ} → i ∷ [] ≡ j ∷ [] → i ≡ j
@@ -62,19 +58,26 @@ pub record IsDead (g : Graph) (all : Partitions) (n : ℕ) (s : FrameTable) (i t
 
 -- ---- what is owed
 
--- frame i, of code n, owes those of its threads that have neither run nor been skipped
+-- frame i, of code n, owes exactly those of its threads that have neither run nor been skipped
 pub record FrameOwes (g : Graph) (all : Partitions) (p : Program) (n : ℕ) (s : FrameTable) (i : ℕ) : Type 0 where
   pub gone : List ℕ
   pub once : Distinct gone
   pub low : (t : ℕ) → In t gone → t < length (code_text p n).threads
   pub why : (t : ℕ) → In t gone → IsRun s i t ⊎ IsDead g all n s i t
+  pub whole : (t : ℕ) → t < length (code_text p n).threads → IsRun s i t ⊎ IsDead g all n s i t → In t gone
   pub sum : (frame_at s i).owed + length gone ≡ length (code_text p n).threads
+
+-- what is supposed of a program: each thread waits for something, and threads of a code that is there have numbers in it
+pub record IsCounted (g : Graph) (all : Partitions) (p : Program) : Type 0 where
+  pub some : (n t : ℕ) → slice_get (counts_of (code_text p n)) t ≡ Some 0 → ⊥
+  pub low : (n : ℕ) (u : ThreadKind) → 0 < length (code_text p n).threads → IsThread (code_of g n) (parts_for all n) u
+      → number_of_thread (code_of g n) (parts_for all n) u < length (code_text p n).threads
 
 -- each frame does
 abbrev pub AllOwe : Graph → Partitions → Program → Machine → Type 0
 AllOwe g all p m = (i : ℕ) → i < length m.table.frames → FrameOwes g all p (code_at m i) m.table i
 
--- where frames go on
+-- where what has run has run
 pub dead-on : (g : Graph) (all : Partitions) (n : ℕ) (s u : FrameTable) (i : ℕ) → ((t : ℕ) → IsRun s i t → IsRun u i t) → (t : ℕ) → IsDead g all n s i t
     → IsDead g all n u i t
 dead-on g all n s u i on t d = record {
@@ -89,12 +92,11 @@ dead-on g all n s u i on t d = record {
   beneath = d.beneath;
 }
 
-pub gone-on : (g : Graph) (all : Partitions) (n : ℕ) (s u : FrameTable) (i : ℕ) → Goes (frame_at s i) (frame_at u i) → (t : ℕ) → IsRun s i t
+pub gone-on : (g : Graph) (all : Partitions) (n : ℕ) (s u : FrameTable) (i : ℕ) → ((t : ℕ) → IsRun s i t → IsRun u i t) → (t : ℕ) → IsRun s i t
     ⊎ IsDead g all n s i t
     → IsRun u i t ⊎ IsDead g all n u i t
-gone-on g all n s u i go t (inl r) = inl (let x = go.ran t r.zero_left r.not_ready in record { zero_left = x.0; not_ready = x.1 })
-gone-on g all n s u i go t (inr d) = inr (dead-on g all n s u i (λ y r. let x = go.ran y r.zero_left r.not_ready in
-    record { zero_left = x.0; not_ready = x.1 }) t d)
+gone-on g all n s u i on t (inl r) = inl (on t r)
+gone-on g all n s u i on t (inr d) = inr (dead-on g all n s u i on t d)
 
 pub owes-on : (g : Graph) (all : Partitions) (p : Program) (n : ℕ) (s u : FrameTable) (i : ℕ) → Goes (frame_at s i) (frame_at u i) → FrameOwes g all p n s i
     → FrameOwes g all p n u i
@@ -102,7 +104,8 @@ owes-on g all p n s u i go o = record {
   gone = o.gone;
   once = o.once;
   low = o.low;
-  why = λ t h. gone-on g all n s u i go t (o.why t h);
+  why = λ t h. gone-on g all n s u i (ran-on s u i go) t (o.why t h);
+  whole = λ t l h. o.whole t l (gone-on g all n u s i (ran-back s u i go) t h);
   sum = ap (λ x. x + length o.gone) go.owed ∙ o.sum;
 }
 

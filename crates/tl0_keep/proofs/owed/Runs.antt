@@ -1,6 +1,8 @@
 -- The run where frames owe: no skip is wild in it, and a frame that owes nothing is left alone, if each state of the plain run is fair.
-use Rattle.std.proofs.Common.{◌≡◌, ◌≢◌, ℕ, zero, suc, ◌+◌, ◌<◌, Bool, true, false, ◌==◌, List, [], ◌∷◌, filter, Option, Some, None, slice_get, length, refl, sym, ap, subst}
+use Rattle.std.proofs.Common.{◌≡◌, ◌≢◌, ℕ, zero, suc, ◌+◌, ◌<◌, Bool, true, false, ◌==◌, List, [], ◌∷◌, filter, Option, Some, None, slice_get, length}
+use Rattle.std.proofs.Common.{refl, sym, ap, subst}
 use Rattle.std.proofs.Common.{◌∙◌, arith, inl, inr}
+use Rattle.std.proofs.lemmas.Option.{same_Some, slice_get_within}
 use Rattle.tam_word.specs.Lists.{without_place}
 use Rattle.tam_word.proofs.Members.{In}
 use Rattle.tam_graph.specs.Graphs.{Graph, code_of}
@@ -16,26 +18,28 @@ use Rattle.tam_msgs.specs.Runs.{WildCause, Wild_skip, End, Wild, Budget_spent, O
 use Rattle.tam_world.specs.Worlds.{has_entered}
 use Rattle.tam_frames.specs.FrameTables.{FrameTable, frame_at, is_ready, next_thread}
 use Rattle.tl0_code.specs.declared.instr.Instr.{Instr}
-use Rattle.tl0_code.specs.ThreadCode.{Program, code_text, plain, is_plain, thread_at}
+use Rattle.tl0_code.specs.ThreadCode.{Thread, CodeText, Program, or_text, code_text, counts_of, plain, is_plain, thread_at}
 use Rattle.tl0_code.specs.Machines.{Machine, Plain, Owing, Progress, Fine, Broken, code_at, done_thread, put}
 use Rattle.tl0_code.specs.ThreadRuns.{as_outcome, run_taken, run_next, delivered_at, counted, chosen, step_of, thread_opening, begin, or_machine, nothing_begun}
 use Rattle.tl0_keep.specs.Compiled.{compiled, compiled_with}
 use Rattle.tl0_keep.specs.ThreadNames.{names_of, IsLeftAlone}
 use Rattle.tl0_keep.specs.ThreadLaws.{IsJob, IsAfter, EndsWithin, NoSkipIsWild, DoneIsDone}
-use Rattle.tl0_keep.proofs.code.ThreadKinds.{AreAllParts, ThreadKind, IsThread, number_of_thread, parts_for}
+use Rattle.tl0_keep.proofs.code.ThreadKinds.{AreAllParts, ThreadKind, IsThread, number_of_thread, parts_for, sources_of}
 use Rattle.tl0_keep.proofs.code.CodeFacts.{CodeFacts}
 use Rattle.tl0_keep.proofs.owing.Tables.{bare_next, next_thread-bare, is_ready-bare}
 use Rattle.tl0_keep.proofs.owing.Threads.{unowed}
-use Rattle.tl0_keep.proofs.owing.Programs.{instrs-plain}
+use Rattle.tl0_keep.proofs.owing.Programs.{instrs-plain, counts-plain}
 use Rattle.tl0_keep.proofs.owing.Deliveries.{unowed_outcome}
 use Rattle.tl0_keep.proofs.owing.Runs.{plain-step, owing-is-plain}
 use Rattle.tl0_keep.proofs.code.RisingClasses.{partitions-parts}
 use Rattle.tl0_keep.proofs.code.Facts.{code-facts}
-use Rattle.tl0_keep.proofs.runs.PlainRuns.{compiled-is}
+use Rattle.tl0_keep.proofs.code.CodePlaces.{compiled-many}
+use Rattle.tl0_keep.proofs.runs.PlainRuns.{compiled-is, some-source}
+use Rattle.tl0_keep.proofs.giving.LiveFrames.{first-thread}
 use Rattle.tl0_keep.proofs.giving.Places.{contains-in}
-use Rattle.tl0_keep.proofs.owed.Skipped.{home}
+use Rattle.tl0_keep.proofs.owed.Skipped.{home, length-mapped}
 use Rattle.tl0_keep.proofs.owed.Tables.{machine-twice, put-goes, spend-goes}
-use Rattle.tl0_keep.proofs.owed.Owes.{FrameOwes, AllOwe, all-gone, IsFair, dead-out, zero-alive}
+use Rattle.tl0_keep.proofs.owed.Owes.{FrameOwes, IsCounted, AllOwe, all-gone, IsFair, dead-out, zero-alive}
 use Rattle.tl0_keep.proofs.owed.Stopping.{Finishes, plain-many}
 use Rattle.tl0_keep.proofs.owed.Threads.{thread-finishes}
 use Rattle.tl0_keep.proofs.owed.Steps.{fair-with, fair-unowed, fair-owed, StepOwes, message-owes, with_fresh, begun-owes, wild-eq}
@@ -55,6 +59,39 @@ ended-how e = cc
 same-next : (o : Outcome Machine) (m : Machine) → unowed_outcome o ≡ Next m → (k : Machine) × (o ≡ Next k) × (unowed k ≡ m)
 same-next (Next k) m e = (k, refl, next-eq e)
 same-next (Ended how k) m e = absurd (next-ended (sym e))
+
+-- ---- the threads of a graph's code
+
+-- a code with a thread is there
+code-there : (g : Graph) (all : Partitions) → AreAllParts g all → (n : ℕ) → 0 < length (code_text (compiled_with g all) n).threads → n < length g.codes
+code-there g all parts n l = go (slice_get (compiled_with g all).codes n) refl l
+  where
+    go : (o : Option CodeText) → slice_get (compiled_with g all).codes n ≡ o → 0 < length (or_text o).threads → n < length g.codes
+    go None e h = absurd (omega arith)
+    go (Some c) e h = subst (λ x. n < x) (compiled-many g all parts) (slice_get_within (compiled_with g all).codes n c e)
+
+-- each of its threads waits for something, and has its number in it
+all-counted : (g : Graph) (all : Partitions) → AreAllParts g all → CodeFacts g all → IsCounted g all (compiled_with g all)
+all-counted g all parts facts = record {
+  some = λ n t e.
+      let w = slice_get_within (counts_of (code_text (compiled_with g all) n)) t 0 e in
+      let m = length-mapped (λ (x : Thread). x.count) (code_text (compiled_with g all) n).threads in
+      let there = code-there g all parts n (omega (arith, w, m)) in
+      let text = facts.texts n there in
+      let q = plain-many (compiled_with g all) n in
+      let o = text.number_onto t (omega (arith, w, m, q)) in
+      let z : Some 0 ≡ Some (length (sources_of (code_of g n) (parts_for all n) o.0)) = sym e
+      ∙ (ap (λ (xs : List ℕ). slice_get xs t) (sym (counts-plain (compiled_with g all) n))
+      ∙ (ap (slice_get (counts_of (code_text (plain (compiled_with g all)) n))) (sym o.2) ∙ text.count o.0 o.1)) in
+      let l = some-source g all n there o.0 o.1 in
+      let y = same_Some 0 (length (sources_of (code_of g n) (parts_for all n) o.0)) z in
+      absurd (omega (arith, l, y));
+  low = λ n u l h.
+      let there = code-there g all parts n l in
+      let q = plain-many (compiled_with g all) n in
+      let b = (facts.texts n there).number_below u h in
+      omega (arith, b, q);
+}
 
 -- ---- one event
 
@@ -129,6 +166,7 @@ module _ (g : Graph) (accepted : IsAccepted g) (all : Partitions) (parts : AreAl
       at : (o : Option Message) → StepOwes g all (compiled_with g all) k (delivered_at Owing (compiled_with g all) limits (counted k rest) i o)
       at None = λ x q. absurd cc
       at (Some x) = message-owes g all (compiled_with g all) k owes (record (counted k rest) { pending = without_place i k.pending }) refl refl limits
+          (all-counted g all parts facts)
           fair-here.free x
 
       go : (t : Bool) → StepOwes g all (compiled_with g all) k (elim t [
@@ -197,8 +235,8 @@ module _ (g : Graph) (all : Partitions) (p : Program) (args : List ℕ) (order :
   none-owe : AllOwe g all p (nothing_begun args order)
   none-owe i l = absurd (omega arith)
 
-  opening-owes : AllOwe g all p (thread_opening p args order)
-  opening-owes = go (begin p (nothing_begun args order) p.main outside 0) refl
+  opening-owes : IsCounted g all p → AllOwe g all p (thread_opening p args order)
+  opening-owes each = go (begin p (nothing_begun args order) p.main outside 0) refl
     where
       go : (r : Progress) → begin p (nothing_begun args order) p.main outside 0 ≡ r → AllOwe g all p (or_machine (nothing_begun args order) r)
       go (Broken what n) e = none-owe
@@ -206,7 +244,10 @@ module _ (g : Graph) (all : Partitions) (p : Program) (args : List ℕ) (order :
           let start : Machine = with_fresh g all p (nothing_begun args order) none-owe (nothing_begun args order) refl refl limits refl p.main outside 0 in
           let a = put start 0 0 outside in
           let b = put a 0 1 0 in
-          (begun-owes g all p (nothing_begun args order) none-owe (nothing_begun args order) refl refl limits refl p.main outside 0 n
+          let a1 = first-thread p (nothing_begun args order) p.main outside 0 n refl e in
+          let a2 = length-mapped (λ (t : Thread). t.count) (code_text p p.main).threads in
+          (begun-owes g all p (nothing_begun args order) none-owe (nothing_begun args order) refl refl limits refl p.main outside 0 each
+          (omega (arith, a1, a2)) n
           (machine-twice start b n (machine-twice start a b (put-goes start 0 0 outside) (put-goes a 0 1 0)) (spend-goes b n 0 0 e))).0
 
 -- ---- the run
@@ -232,11 +273,16 @@ module _ (g : Graph) (accepted : IsAccepted g) (all : Partitions) (parts : AreAl
 
   -- each state owes what it should
   pub states-owe : (n : ℕ) (k : Machine) → IsAfter Owing (compiled_with g all) args order limits n k → AllOwe g all (compiled_with g all) k
-  states-owe zero k e = subst (AllOwe g all (compiled_with g all)) (next-eq e) (opening-owes g all (compiled_with g all) args order limits)
+  states-owe zero k e = subst (AllOwe g all (compiled_with g all)) (next-eq e)
+      (opening-owes g all (compiled_with g all) args order limits (all-counted g all parts facts))
   states-owe (suc n) k e =
       let r = after-last (step_of Owing (compiled_with g all) limits) n (thread_opening (compiled_with g all) args order) k e in
       let o = states-owe n r.0 r.1 in
       (subst (StepOwes g all (compiled_with g all) r.0) r.2 (event-owes n r.0 r.1 o).1).0
+
+  -- and what is known of it
+  pub state-fair : (n : ℕ) (k : Machine) → IsAfter Owing (compiled_with g all) args order limits n k → IsFair g all k
+  state-fair n k e = (event-owes n k e (states-owe n k e)).0
 
   -- no skip is wild
   pub none-wild : (n : ℕ) (how : End) (k : Machine) → EndsWithin Owing (compiled_with g all) args order limits n how k → (x : ℕ) → how ≡ Wild Wild_skip x → ⊥
@@ -268,7 +314,7 @@ module _ (g : Graph) (accepted : IsAccepted g) (all : Partitions) (parts : AreAl
       owes = states-owe n k a f l
 
       fair : IsFair g all k
-      fair = (event-owes n k a (states-owe n k a)).0
+      fair = state-fair n k a
 
       -- each of its threads is gone
       gone : (t : ℕ) → t < length (code_text (compiled_with g all) (code_at k f)).threads → In t owes.gone

@@ -175,7 +175,7 @@ module _ (g : Graph) (accepted : IsAccepted g) (n : ℕ) (there : n < length g.c
       (Inside o.0 Itself, Inside o.1 Itself)
 
   -- a node that chooses is there
-  choosing-there : (x : ℕ) (k : Kind) → kind_at (code_of g n) x ≡ k → is_choosing k ≡ true → x < length (code_of g n).nodes
+  pub choosing-there : (x : ℕ) (k : Kind) → kind_at (code_of g n) x ≡ k → is_choosing k ≡ true → x < length (code_of g n).nodes
   choosing-there x k e h = node-there (code_of g n) x (λ q. true≢false (sym h ∙ ap is_choosing (sym e ∙ q)))
 
   -- the blocks of a switch stand inside its block

@@ -1,7 +1,8 @@
 -- One event where frames owe: it isn't wild by what is owed, and behind it each frame owes what it should, and no frame more than before.
 use Rattle.std.proofs.Common.{◌≡◌, ℕ, ◌+◌, ◌%◌, ◌^◌, ◌<◌, ◌≤◌, Bool, true, false, ◌==◌, nat_lt, List, [], ◌∷◌, ◌++◌, Option, Some, None, slice_get, slice_index}
-use Rattle.std.proofs.Common.{length, refl, sym, ap, subst, ◌∙◌, arith, inl, inr, ◌⊎◌}
+use Rattle.std.proofs.Common.{zero, suc, length, take, replicate, refl, sym, ap, subst, ◌∙◌, arith, inl, inr, ◌⊎◌}
 use Rattle.std.proofs.lemmas.List.{length-append}
+use Rattle.std.proofs.lemmas.Option.{none-some}
 use Rattle.tam_word.specs.Lists.{any_of, put_at}
 use Rattle.tam_word.proofs.PutAt.{put_at-here, put_at-cases}
 use Rattle.tam_word.proofs.Members.{In, Distinct}
@@ -24,11 +25,12 @@ use Rattle.tl0_keep.specs.ThreadLaws.{table_without_owed}
 use Rattle.tl0_keep.proofs.code.ThreadKinds.{number_of_thread, parts_for}
 use Rattle.tl0_keep.proofs.runs.Frames.{same-or-other}
 use Rattle.tl0_keep.proofs.giving.Places.{get-before, get-behind}
+use Rattle.tl0_keep.proofs.giving.LiveFrames.{first-thread}
 use Rattle.tl0_keep.proofs.owing.Tables.{frame_at-bare}
 use Rattle.tl0_keep.proofs.owing.Threads.{unowed}
 use Rattle.tl0_keep.proofs.owed.Skipped.{length-mapped}
-use Rattle.tl0_keep.proofs.owed.Tables.{Goes, TableGoes, MachineGoes, machine-same, machine-twice, put-goes, spend-goes, plain-broken}
-use Rattle.tl0_keep.proofs.owed.Owes.{FrameOwes, AllOwe, owes-on, IsFair}
+use Rattle.tl0_keep.proofs.owed.Tables.{IsRun, Goes, TableGoes, MachineGoes, machine-same, machine-twice, put-goes, spend-goes, plain-broken}
+use Rattle.tl0_keep.proofs.owed.Owes.{FrameOwes, IsCounted, AllOwe, owes-on, IsFair}
 
 -- ---- what is known of a state doesn't rest on what is owed
 
@@ -86,6 +88,13 @@ wild-eq e = cc
 
 thread-skip : Wild_thread ≡ Wild_skip → ⊥
 thread-skip e = cc
+
+-- what is taken of a list stands there
+get-take : (w : ℕ) (xs : List ℕ) (t v : ℕ) → slice_get (take w xs) t ≡ Some v → slice_get xs t ≡ Some v
+get-take zero xs t v e = absurd (none-some v e)
+get-take (suc w) [] t v e = absurd (none-some v e)
+get-take (suc w) (x ∷ xs) zero v e = e
+get-take (suc w) (x ∷ xs) (suc t) v e = get-take w xs t v e
 
 -- a frame that begins
 new-cases : (s : FrameTable) (h : Frame) (i : ℕ) → i < length (s.frames ++ Some h ∷ []) → (i < length s.frames) ⊎ (i ≡ length s.frames)
@@ -207,20 +216,36 @@ module _ (g : Graph) (all : Partitions) (p : Program) (k : Machine) (owes : AllO
           machine-twice with_fresh a framed (put-goes with_fresh (next_number m.table) 0 f) (put-goes a (next_number m.table) 1 ((i + 1) % 2 ^ 32))
 
       -- it owes all its threads
-      new-owes : (j : ℕ) → j ≡ length m.table.frames → (u : FrameTable) → Goes (frame_at longer j) (frame_at u j) → FrameOwes g all p code u j
-      new-owes j at u go = record {
+      new-owes : IsCounted g all p → 0 < length (code_text p code).threads → (j : ℕ) → j ≡ length m.table.frames → (u : FrameTable)
+          → Goes (frame_at longer j) (frame_at u j) → FrameOwes g all p code u j
+      new-owes counted some j at u go = record {
         gone = [];
         once = tt;
         low = λ t x. absurd x;
         why = λ t x. absurd x;
+        whole = λ t l h. absurd (elim h [
+          | inl q ↦ none-ran t l q
+          | inr d ↦ none-ran (number_of_thread (code_of g code) (parts_for all code) d.chooser) (counted.low code d.chooser some d.chooser_thread) d.ran
+        ]);
         sum =
             let e = go.owed in
-            let w : frame_at longer j ≡ fresh = ap (λ (n : ℕ). or_frame (slice_get (m.table.frames ++ Some fresh ∷ []) n)) at
-            ∙ ap or_frame (get-behind m.table.frames (Some fresh)) in
-            let s = ap (λ (h : Frame). h.owed) w in
+            let s = ap (λ (h : Frame). h.owed) is-fresh in
             let l = length-mapped (λ (t : Thread). t.count) (code_text p code).threads in
             omega (arith, e, s, l);
       }
+        where
+          is-fresh : frame_at longer j ≡ fresh
+          is-fresh = ap (λ (n : ℕ). or_frame (slice_get (m.table.frames ++ Some fresh ∷ []) n)) at
+              ∙ ap or_frame (get-behind m.table.frames (Some fresh))
+
+          -- none has run
+          none-ran : (t : ℕ) → t < length (code_text p code).threads → IsRun u j t → ⊥
+          none-ran t l q =
+              let z = (go.back t q.zero_left q.not_ready).0 in
+              let n = length-mapped (λ (t : Thread). t.count) (code_text p code).threads in
+              counted.some code t (sym (get-before (counts_of (code_text p code)) (replicate (widest_threads p) 0) t (omega (arith, n, l)))
+              ∙ get-take (widest_threads p) (counts_of (code_text p code) ++ replicate (widest_threads p) 0) t 0
+              (sym (ap (λ (h : Frame). slice_get h.counts t) is-fresh) ∙ z))
 
       code-there : slice_index (put_at 0 (next_number m.table) code m.codes) (next_number m.table) ≡ code
       code-there = put_at-here 0 (next_number m.table) code m.codes
@@ -233,8 +258,8 @@ module _ (g : Graph) (all : Partitions) (p : Program) (k : Machine) (owes : AllO
       old-frame j l = ap or_frame (get-before m.table.frames (Some fresh ∷ []) j l) ∙ ap (λ (u : FrameTable). frame_at u j) e
 
       -- behind it
-      pub begun-owes : (n : Machine) → MachineGoes with_fresh n → StepOwes g all p k (Next n)
-      begun-owes n h = (
+      pub begun-owes : IsCounted g all p → 0 < length (code_text p code).threads → (n : Machine) → MachineGoes with_fresh n → StepOwes g all p k (Next n)
+      begun-owes counted some n h = (
         λ j l. elim (new-cases m.table fresh j (subst (λ x. j < x) size l)) [
           | inl q ↦ subst (λ (x : ℕ). FrameOwes g all p x n.table j)
               (sym (ap (λ (cs : List ℕ). slice_index cs j) h.codes ∙ (code-other j (λ z. not-below j (length m.table.frames) q (sym z ∙ number-is))
@@ -243,7 +268,7 @@ module _ (g : Graph) (all : Partitions) (p : Program) (k : Machine) (owes : AllO
           | inr q ↦ subst (λ (x : ℕ). FrameOwes g all p x n.table j)
               (sym (ap (λ (cs : List ℕ). slice_index cs j) h.codes
               ∙ (ap (slice_index (put_at 0 (next_number m.table) code m.codes)) (q ∙ sym number-is) ∙ code-there)))
-              (new-owes j q n.table (goes j))
+              (new-owes counted some j q n.table (goes j))
         ],
         λ j l. (let q = subst (λ x. j < x) (ap (λ (u : FrameTable). length u.frames) (sym e)) l in (
           subst (λ x. j < x) (sym size) (let a = length-append m.table.frames (Some fresh ∷ []) in omega (arith, a, q)),
@@ -264,21 +289,27 @@ module _ (g : Graph) (all : Partitions) (p : Program) (k : Machine) (owes : AllO
           old-goes j q = subst (λ (x : Frame). Goes x (frame_at n.table j)) (old-frame j q) (goes j)
 
       -- the whole
-      begin-owes : StepOwes g all p k (delivered Owing p limits m (Begin code f i))
-      begin-owes = go (begin p m code f ((i + 1) % 2 ^ 32)) refl
+      begin-owes : IsCounted g all p → StepOwes g all p k (delivered Owing p limits m (Begin code f i))
+      begin-owes counted = go (begin p m code f ((i + 1) % 2 ^ 32)) refl
         where
           go : (r : Progress) → begin p m code f ((i + 1) % 2 ^ 32) ≡ r
               → StepOwes g all p k (as_outcome (then_do r (λ n. Fine (with_message n (Carry f i (next_number m.table))))) m)
-          go (Fine n) q = begun-owes (with_message n (Carry f i (next_number m.table)))
+          go (Fine n) q = begun-owes counted some (with_message n (Carry f i (next_number m.table)))
               (let h = machine-twice with_fresh framed n framed-goes (spend-goes framed n (next_number m.table) 0 q) in
               record { table = h.table; codes = h.codes })
+            where
+              some : 0 < length (code_text p code).threads
+              some =
+                  let a = first-thread p m code f ((i + 1) % 2 ^ 32) n free q in
+                  let b = length-mapped (λ (t : Thread). t.count) (code_text p code).threads in
+                  omega (arith, a, b)
           go (Broken what x) q = λ y z. thread-skip (sym (plain-broken framed (next_number m.table) (Fork 0 ∷ []) what x
               (ap (λ (r : Progress). then_do r (λ n. done_all Plain n (next_number m.table) [])) q)) ∙ wild-eq z)
 
     -- any message
-    pub message-owes : m.table.free ≡ [] → (x : Message) → StepOwes g all p k (delivered Owing p limits m x)
-    message-owes free (Carry f i w) = word-owes f i w
-    message-owes free (Begin code f i) = begin-owes free code f i
-    message-owes free (Make n f i) = cells-owe n f i
-    message-owes free (Ask_cell a i f x s) = access-owes s a i (f, x) 0 (fetched_from m.arrays a i (f, x))
-    message-owes free (Put_cell a i w s) = access-owes s a i (0, 0) w (stored_into m.arrays a i w s)
+    pub message-owes : IsCounted g all p → m.table.free ≡ [] → (x : Message) → StepOwes g all p k (delivered Owing p limits m x)
+    message-owes counted free (Carry f i w) = word-owes f i w
+    message-owes counted free (Begin code f i) = begin-owes free code f i counted
+    message-owes counted free (Make n f i) = cells-owe n f i
+    message-owes counted free (Ask_cell a i f x s) = access-owes s a i (f, x) 0 (fetched_from m.arrays a i (f, x))
+    message-owes counted free (Put_cell a i w s) = access-owes s a i (0, 0) w (stored_into m.arrays a i w s)

@@ -8,7 +8,8 @@ use Rattle.tam_msgs.specs.Runs.{WildCause, Wild_thread, Wild_skip}
 use Rattle.tam_frames.specs.FrameTables.{Frame, FrameTable, frame_at, lowered, rested}
 use Rattle.tl0_code.specs.declared.instr.Instr.{Instr}
 use Rattle.tl0_code.specs.ThreadCode.{Program, CodeText, code_text, plain, is_plain}
-use Rattle.tl0_code.specs.Machines.{Machine, Plain, Owing, Progress, Fine, Broken, code_at, then_do, done_all, done_thread, owing_less, at_rest, all_done, stopped, stopped_kept}
+use Rattle.tl0_code.specs.Machines.{Machine, Plain, Owing, Progress, Fine, Broken, code_at, then_do, done_all, done_thread, owing_less, at_rest}
+use Rattle.tl0_code.specs.Machines.{all_done, stopped, stopped_kept}
 use Rattle.tl0_keep.specs.Compiled.{compiled_with}
 use Rattle.tl0_keep.specs.ThreadLaws.{table_without_owed}
 use Rattle.tl0_keep.proofs.code.ThreadKinds.{ThreadKind, IsThread, number_of_thread, parts_for}
@@ -19,8 +20,9 @@ use Rattle.tl0_keep.proofs.owing.Tables.{frame_at-bare}
 use Rattle.tl0_keep.proofs.owing.Threads.{unowed, unowed_progress, OrBroken, all-same}
 use Rattle.tl0_keep.proofs.owing.Programs.{code_text-plain}
 use Rattle.tl0_keep.proofs.owed.Skipped.{length-mapped}
-use Rattle.tl0_keep.proofs.owed.Tables.{IsRun, Goes, goes-same, MachineGoes, held-count, HaveNoSkip, all-goes, all-plain, plain-broken, fine-eq, broken-fine}
-use Rattle.tl0_keep.proofs.owed.Owes.{IsDead, FrameOwes, AllOwe, dead-on, owes-on, few-gone, all-gone, IsFair, zero-alive}
+use Rattle.tl0_keep.proofs.owed.Tables.{IsRun, Goes, goes-same, MachineGoes, ran-as, ran-back, held-count, HaveNoSkip, all-goes, all-plain}
+use Rattle.tl0_keep.proofs.owed.Tables.{plain-broken, fine-eq, broken-fine}
+use Rattle.tl0_keep.proofs.owed.Owes.{IsDead, FrameOwes, AllOwe, dead-on, gone-on, owes-on, few-gone, all-gone, IsFair, zero-alive}
 
 -- a code has as many threads without skips
 pub plain-many : (p : Program) (n : ℕ) → length (code_text (plain p) n).threads ≡ length (code_text p n).threads
@@ -47,6 +49,7 @@ pub record GoneWith (g : Graph) (all : Partitions) (p : Program) (m : Machine) (
   pub once : Distinct (t ∷ gone)
   pub low : (u : ℕ) → In u (t ∷ gone) → u < length (code_text p (code_at m f)).threads
   pub why : (u : ℕ) → In u (t ∷ gone) → IsRun m.table f u ⊎ IsDead g all (code_at m f) m.table f u
+  pub whole : (u : ℕ) → u < length (code_text p (code_at m f)).threads → IsRun m.table f u ⊎ IsDead g all (code_at m f) m.table f u → In u (t ∷ gone)
   pub sum : (frame_at m.table f).owed + length gone ≡ length (code_text p (code_at m f)).threads
 
 module _ (g : Graph) (all : Partitions) (facts : CodeFacts g all) (m : Machine) (f t : ℕ) (there : f < length m.table.frames) (is : List Instr)
@@ -96,6 +99,11 @@ module _ (g : Graph) (all : Partitions) (facts : CodeFacts g all) (m : Machine) 
       not_ready = λ i. (ran u r).not_ready (subst (λ (h : Frame). In u h.ready) here i);
     }
 
+    -- nothing else has
+    back-less : (u : ℕ) → IsRun (lowered k.table f 1) f u → IsRun m.table f u
+    back-less u r = ran-back m.table k.table f (goes.table.goes f) u
+        (ran-as (lowered k.table f 1) k.table f (sym (ap (λ (h : Frame). h.counts) here)) (sym (ap (λ (h : Frame). h.ready) here)) u r)
+
     -- the frame owes what it should
     this-owes : FrameOwes g all (compiled_with g all) (code_at m f) (lowered k.table f 1) f
     this-owes = record {
@@ -103,6 +111,7 @@ module _ (g : Graph) (all : Partitions) (facts : CodeFacts g all) (m : Machine) 
       once = gone_with.once;
       low = gone_with.low;
       why = λ u i. by u (gone_with.why u i);
+      whole = λ u l h. gone_with.whole u l (gone-on g all (code_at m f) (lowered k.table f 1) m.table f back-less u h);
       sum = let a = ap (λ (h : Frame). h.owed) here in let s = gone_with.sum in let e = same in let l = few in omega (arith, a, s, e, l);
     }
       where

@@ -1,6 +1,6 @@
 -- What a run leaves of a frame: what it owes, and which of its threads have run, told by entry counts and ready lists alone.
 use Rattle.std.proofs.Common.{◌≡◌, ℕ, zero, suc, ◌<◌, true, List, [], ◌∷◌, Option, Some, None, slice_get, slice_set, length, refl, sym, ap, subst}
-use Rattle.std.proofs.Common.{◌∙◌, arith, inl, inr, true≢false}
+use Rattle.std.proofs.Common.{◌∙◌, arith, inl, inr, ◌⊎◌, true≢false}
 use Rattle.std.proofs.lemmas.Option.{none-some, same_Some, slice_get_within}
 use Rattle.tam_word.proofs.Members.{In, Distinct}
 use Rattle.tam_msgs.specs.Runs.{WildCause, Wild_thread}
@@ -9,7 +9,7 @@ use Rattle.tl0_code.specs.declared.instr.Instr.{Instr}
 use Rattle.tl0_code.specs.declared.instr.Instr.TheVariants.{Imm, Mov, Op as Operate, Fork, Switch, Falloc, Send, Ret, Ialloc, Ifetch, Istore, Skip}
 use Rattle.tl0_code.specs.ThreadCode.{is_plain}
 use Rattle.tl0_code.specs.Machines.{Machine, Plain, Owing, put, slot, branch, Progress, Fine, Broken, spend_of, spend, done, then_do, done_all}
-use Rattle.tl0_keep.proofs.giving.Places.{get-set-other, changed-length}
+use Rattle.tl0_keep.proofs.giving.Places.{get-set-here, get-set-other, changed-length}
 use Rattle.tl0_keep.proofs.runs.Frames.{same-or-other, IsHeld, frame-here, frame-other, ready_with, SpendLeaves, spent-leaves}
 use Rattle.tl0_keep.proofs.runs.Spending.{index-get}
 
@@ -20,18 +20,23 @@ pub record IsRun (s : FrameTable) (i t : ℕ) : Type 0 where
   pub zero_left : slice_get (frame_at s i).counts t ≡ Some 0
   pub not_ready : In t (frame_at s i).ready → ⊥
 
--- a frame goes on: it owes as much, and what has run has run
+-- a frame goes on: it owes as much, and the threads that have run are those that had
 pub record Goes (h k : Frame) : Type 0 where
   pub owed : k.owed ≡ h.owed
   pub ran : (t : ℕ) → slice_get h.counts t ≡ Some 0 → (In t h.ready → ⊥) → (slice_get k.counts t ≡ Some 0) × (In t k.ready → ⊥)
+  pub back : (t : ℕ) → slice_get k.counts t ≡ Some 0 → (In t k.ready → ⊥) → (slice_get h.counts t ≡ Some 0) × (In t h.ready → ⊥)
 
 -- it stays
 pub goes-same : (h : Frame) → Goes h h
-goes-same h = record { owed = refl; ran = λ t z r. (z, r) }
+goes-same h = record { owed = refl; ran = λ t z r. (z, r); back = λ t z r. (z, r) }
 
 -- twice
 pub goes-twice : (h k l : Frame) → Goes h k → Goes k l → Goes h l
-goes-twice h k l a b = record { owed = b.owed ∙ a.owed; ran = λ t z r. let x = a.ran t z r in b.ran t x.0 x.1 }
+goes-twice h k l a b = record {
+  owed = b.owed ∙ a.owed;
+  ran = λ t z r. let x = a.ran t z r in b.ran t x.0 x.1;
+  back = λ t z r. let x = b.back t z r in a.back t x.0 x.1;
+}
 
 -- each frame goes on
 pub record TableGoes (s u : FrameTable) : Type 0 where
@@ -58,8 +63,20 @@ machine-twice m k n a b = record {
 }
 
 -- what has run has run
-pub ran-on : (s u : FrameTable) → TableGoes s u → (i t : ℕ) → IsRun s i t → IsRun u i t
-ran-on s u g i t r = let x = (g.goes i).ran t r.zero_left r.not_ready in record { zero_left = x.0; not_ready = x.1 }
+pub ran-on : (s u : FrameTable) (i : ℕ) → Goes (frame_at s i) (frame_at u i) → (t : ℕ) → IsRun s i t → IsRun u i t
+ran-on s u i g t r = let x = g.ran t r.zero_left r.not_ready in record { zero_left = x.0; not_ready = x.1 }
+
+-- and nothing else has
+pub ran-back : (s u : FrameTable) (i : ℕ) → Goes (frame_at s i) (frame_at u i) → (t : ℕ) → IsRun u i t → IsRun s i t
+ran-back s u i g t r = let x = g.back t r.zero_left r.not_ready in record { zero_left = x.0; not_ready = x.1 }
+
+-- so it is where a frame counts and is ready as another
+pub ran-as : (s u : FrameTable) (i : ℕ) → (frame_at u i).counts ≡ (frame_at s i).counts → (frame_at u i).ready ≡ (frame_at s i).ready → (t : ℕ) → IsRun s i t
+    → IsRun u i t
+ran-as s u i c e t r = record {
+  zero_left = ap (λ (xs : List ℕ). slice_get xs t) c ∙ r.zero_left;
+  not_ready = λ q. r.not_ready (subst (λ (xs : List ℕ). In t xs) e q);
+}
 
 -- ---- changes
 
@@ -82,7 +99,7 @@ changed-goes s f change g = record { frames = changed-length s.frames f change; 
 pub put-goes : (m : Machine) (f a w : ℕ) → MachineGoes m (put m f a w)
 put-goes m f a w = record {
   table = changed-goes m.table f (λ h. record h { slots = slice_set h.slots a w })
-      (λ h. record { owed = refl; ran = λ t z r. (z, r) });
+      (λ h. record { owed = refl; ran = λ t z r. (z, r); back = λ t z r. (z, r) });
   codes = refl;
 }
 
@@ -133,10 +150,24 @@ spent-goes s f t n e = record {
     not_ready zero u d r (inr q) = r q
     not_ready (suc k) u d r q = r q
 
+    -- where nothing is left, the thread is ready
+    spent-ready : (k u : ℕ) → t ≡ u → k ≡ 0 → (In u (ready_with k t (frame_at s f).ready) → ⊥) → ⊥
+    spent-ready zero u q z r = r (inl q)
+    spent-ready (suc k) u q z r = absurd (omega arith)
+
+    ready_on : (k u : ℕ) → In u (frame_at s f).ready → In u (ready_with k t (frame_at s f).ready)
+    ready_on zero u i = inr i
+    ready_on (suc k) u i = i
+
     here : Goes (frame_at s f) (record (frame_at s f) { counts = slice_set (frame_at s f).counts t n; ready = ready_with n t (frame_at s f).ready })
     here = record {
       owed = refl;
       ran = λ u z r. (get-set-other (frame_at s f).counts t u n (apart u z) ∙ z, not_ready n u (apart u z) r);
+      back = λ u z r. elim (same-or-other t u) [
+        | inl q ↦ absurd (spent-ready n u q (same_Some n 0 (sym (get-set-here (frame_at s f).counts t n (slice_get_within (frame_at s f).counts t (suc n) e))
+            ∙ (ap (slice_get (slice_set (frame_at s f).counts t n)) q ∙ z))) r)
+        | inr d ↦ (sym (get-set-other (frame_at s f).counts t u n d) ∙ z, λ i. r (ready_on n u i))
+      ];
     }
 
 -- what ends well
@@ -249,17 +280,46 @@ pub taken-here : (s after : FrameTable) (f t : ℕ) (l : Leaves s after f t) →
 taken-here s after f t l = ap (λ (hs : List (Option Frame)). or_frame (slice_get hs f)) l.frames
     ∙ frame-here s f (λ h. record h { ready = l.rest }) (held-ready s f t (subst (In t) (sym l.was) (inl refl)))
 
--- so frames go on
-pub taken-goes : (s after : FrameTable) (f t : ℕ) → Leaves s after f t → TableGoes s after
+-- so other frames go on, each owes as much, and only this thread has run besides
+pub record TakenGoes (s after : FrameTable) (f t : ℕ) : Type 0 where
+  pub frames : length after.frames ≡ length s.frames
+  pub owed : (i : ℕ) → (frame_at after i).owed ≡ (frame_at s i).owed
+  pub ran : (i u : ℕ) → IsRun s i u → IsRun after i u
+  pub back : (u : ℕ) → IsRun after f u → (t ≡ u) ⊎ IsRun s f u
+  pub others : (i : ℕ) → (f ≡ i → ⊥) → Goes (frame_at s i) (frame_at after i)
+
+pub taken-goes : (s after : FrameTable) (f t : ℕ) → Leaves s after f t → TakenGoes s after f t
 taken-goes s after f t l = record {
   frames = ap length l.frames ∙ changed-length s.frames f (λ h. record h { ready = l.rest });
-  goes = λ i. elim (same-or-other f i) [
-    | inl z ↦ subst (λ j. Goes (frame_at s j) (frame_at after j)) z (subst (Goes (frame_at s f)) (sym (taken-here s after f t l))
-        (record { owed = refl; ran = λ u z r. (z, λ q. r (subst (In u) (sym l.was) (inr q))) }))
-    | inr d ↦ subst (Goes (frame_at s i)) (sym (ap (λ (hs : List (Option Frame)). or_frame (slice_get hs i)) l.frames
-        ∙ frame-other s f i (λ h. record h { ready = l.rest }) d)) (goes-same (frame_at s i))
+  owed = λ i. elim (same-or-other f i) [
+    | inl z ↦ subst (λ j. (frame_at after j).owed ≡ (frame_at s j).owed) z (ap (λ (h : Frame). h.owed) (taken-here s after f t l))
+    | inr d ↦ ap (λ (h : Frame). h.owed) (other i d)
   ];
+  ran = λ i u r. elim (same-or-other f i) [
+    | inl z ↦ subst (λ j. IsRun s j u → IsRun after j u) z (here-ran u) r
+    | inr d ↦ ran-as s after i (ap (λ (h : Frame). h.counts) (other i d)) (ap (λ (h : Frame). h.ready) (other i d)) u r
+  ];
+  back = λ u r. elim (same-or-other t u) [
+    | inl q ↦ inl q
+    | inr d ↦ inr (record {
+      zero_left = ap (λ (h : Frame). slice_get h.counts u) (sym (taken-here s after f t l)) ∙ r.zero_left;
+      not_ready = λ i. elim (subst (In u) l.was i) [
+        | inl q ↦ d q
+        | inr q ↦ r.not_ready (subst (λ (h : Frame). In u h.ready) (sym (taken-here s after f t l)) q)
+      ];
+    })
+  ];
+  others = λ i d. subst (Goes (frame_at s i)) (sym (other i d)) (goes-same (frame_at s i));
 }
+  where
+    other : (i : ℕ) → (f ≡ i → ⊥) → frame_at after i ≡ frame_at s i
+    other i d = ap (λ (hs : List (Option Frame)). or_frame (slice_get hs i)) l.frames ∙ frame-other s f i (λ h. record h { ready = l.rest }) d
+
+    here-ran : (u : ℕ) → IsRun s f u → IsRun after f u
+    here-ran u r = record {
+      zero_left = ap (λ (h : Frame). slice_get h.counts u) (taken-here s after f t l) ∙ r.zero_left;
+      not_ready = λ q. r.not_ready (subst (In u) (sym l.was) (inr (subst (λ (h : Frame). In u h.ready) (taken-here s after f t l) q)));
+    }
 
 -- and the thread has run, if nothing is left of its entry count and it was ready once
 pub taken-run : (s after : FrameTable) (f t : ℕ) → Leaves s after f t → slice_get (frame_at s f).counts t ≡ Some 0 → Distinct (frame_at s f).ready

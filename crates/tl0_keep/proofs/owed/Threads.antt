@@ -3,7 +3,7 @@ use Rattle.std.proofs.Common.{◌≡◌, ℕ, ◌+◌, ◌-◌, ◌<◌, ◌≤�
 use Rattle.std.proofs.Common.{◌∙◌, arith, inl, inr, ◌⊎◌}
 use Rattle.std.proofs.lemmas.List.{length-append}
 use Rattle.tam_word.proofs.Tests.{below-test}
-use Rattle.tam_word.proofs.Members.{In, Distinct, in-append}
+use Rattle.tam_word.proofs.Members.{In, Distinct, in-append, left-in, right-in}
 use Rattle.tam_graph.specs.declared.kind.Kind.TheVariants.{Cond}
 use Rattle.tam_graph.specs.Graphs.{Code, Graph, code_of, kind_at, block_at, owner_of}
 use Rattle.tam_graph.specs.Accepted.{IsAccepted}
@@ -23,8 +23,10 @@ use Rattle.tl0_keep.proofs.runs.Frames.{same-or-other, frame-here, frame-other}
 use Rattle.tl0_keep.proofs.giving.Places.{changed-length}
 use Rattle.tl0_keep.proofs.owing.Threads.{unowed, owing_less-same}
 use Rattle.tl0_keep.proofs.owed.Skipped.{home}
-use Rattle.tl0_keep.proofs.owed.Tables.{IsRun, Goes, TableGoes, HaveNoSkip, held-count, held-ready, held-there, Leaves, taken-leaves, taken-goes, taken-run, ran-on}
-use Rattle.tl0_keep.proofs.owed.Owes.{Beneath, beneath-cases, beneath-chain, Unchosen, IsDead, FrameOwes, AllOwe, dead-on, gone-on, owes-on, few-gone, IsFair, around}
+use Rattle.tl0_keep.proofs.owed.Tables.{IsRun, Goes, TakenGoes, HaveNoSkip, ran-as, held-count, held-ready, held-there, Leaves, taken-leaves, taken-goes}
+use Rattle.tl0_keep.proofs.owed.Tables.{taken-run}
+use Rattle.tl0_keep.proofs.owed.Owes.{Beneath, beneath-cases, beneath-chain, Unchosen, IsDead, FrameOwes, AllOwe, dead-on, gone-on, owes-on, few-gone}
+use Rattle.tl0_keep.proofs.owed.Owes.{IsFair, around}
 use Rattle.tl0_keep.proofs.owed.Owes.{unchosen-out, zero-alive}
 use Rattle.tl0_keep.proofs.owed.Shapes.{IsSkipped, Shape, No_skip, One_skip, shape}
 use Rattle.tl0_keep.proofs.owed.Stopping.{Finishes, finishes, plain-many}
@@ -143,32 +145,61 @@ module _ (g : Graph) (accepted : IsAccepted g) (all : Partitions) (parts : AreAl
   abbrev pub taken_state : Machine
   taken_state = record k { table = after }
 
-  goes : TableGoes k.table after
+  goes : TakenGoes k.table after f t
   goes = taken-goes k.table after f t leaves
 
   run : IsRun after f t
   run = taken-run k.table after f t leaves zero_left (fair.once f)
 
   ran : (i u : ℕ) → IsRun k.table i u → IsRun after i u
-  ran i u r = ran-on k.table after goes i u r
+  ran i u r = goes.ran i u r
+
+  -- where a chooser has run, it is this thread, or it had run
+  chose : (s : FrameTable) → ((u : ℕ) → IsRun s f u → IsRun after f u) → (u : ℕ) (d : IsDead g all (code_at k f) s f u)
+      → (kind ≡ d.chooser) ⊎ IsDead g all (code_at k f) k.table f u
+  chose s back u d = elim (goes.back (number_of_thread (code_of g (code_at k f)) (parts_for all (code_at k f)) d.chooser)
+      (back (number_of_thread (code_of g (code_at k f)) (parts_for all (code_at k f)) d.chooser) d.ran)) [
+        | inl e ↦ inl (text.number_one kind d.chooser thread d.chooser_thread (number ∙ e))
+        | inr q ↦ inr (record {
+          kind = d.kind;
+          thread = d.thread;
+          number = d.number;
+          chooser = d.chooser;
+          chooser_thread = d.chooser_thread;
+          block = d.block;
+          unchosen = d.unchosen;
+          ran = q;
+          beneath = d.beneath;
+        })
+      ]
 
   module _ (later : (m : Machine) → done_thread Plain (unowed taken_state) f (filter is_plain instrs) ≡ Fine m → IsFair g all m) where
     -- without a skip
-    plainly : HaveNoSkip instrs → Finishes g all (compiled_with g all) k (done_thread Owing taken_state f instrs)
-    plainly none = finishes-from g all (compiled_with g all) k taken_state (done_thread Owing taken_state f instrs) goes.frames refl
-        (λ i. let e = (goes.goes i).owed in omega (arith, e))
+    plainly : HaveNoSkip instrs → ((v : ℕ) → Unchosen (code_of g (code_at k f)) kind v → ⊥)
+        → Finishes g all (compiled_with g all) k (done_thread Owing taken_state f instrs)
+    plainly none chooses = finishes-from g all (compiled_with g all) k taken_state (done_thread Owing taken_state f instrs) goes.frames refl
+        (λ i. let e = goes.owed i in omega (arith, e))
         (finishes g all facts taken_state f t (subst (λ x. f < x) (sym goes.frames) there) instrs none run (record {
           gone = own.gone;
           once = (fresh, own.once);
           low = λ u i. elim i [ inl e ↦ subst (λ x. x < many) e low | inr q ↦ own.low u q ];
-          why = λ u i. elim i [ inl e ↦ inl (subst (IsRun after f) e run) | inr q ↦ gone-on g all (code_at k f) k.table after f (goes.goes f) u (own.why u q) ];
-          sum = ap (λ x. x + length own.gone) (goes.goes f).owed ∙ own.sum;
-        }) (λ i d l. owes-on g all (compiled_with g all) (code_at k i) k.table after i (goes.goes i) (owes i (subst (λ x. i < x) goes.frames l))) later)
+          why = λ u i. elim i [ inl e ↦ inl (subst (IsRun after f) e run) | inr q ↦ gone-on g all (code_at k f) k.table after f (ran f) u (own.why u q) ];
+          whole = whole;
+          sum = ap (λ x. x + length own.gone) (goes.owed f) ∙ own.sum;
+        }) (λ i d l. owes-on g all (compiled_with g all) (code_at k i) k.table after i (goes.others i d) (owes i (subst (λ x. i < x) goes.frames l))) later)
+      where
+        whole : (u : ℕ) → u < many → IsRun after f u ⊎ IsDead g all (code_at k f) after f u → In u (t ∷ own.gone)
+        whole u l (inl q) = elim (goes.back u q) [ inl e ↦ inl e | inr w ↦ inr (own.whole u l (inl w)) ]
+        whole u l (inr d) = elim (chose after (λ y x. x) u d) [
+          | inl e ↦ absurd (chooses d.block (subst (λ y. Unchosen (code_of g (code_at k f)) y d.block) (sym e) d.unchosen))
+          | inr w ↦ inr (own.whole u l (inr w))
+        ]
 
     -- with a skip
     module _ (b : ℕ) (skips : List ℕ) (rest : List Instr) (is : instrs ≡ Skip (length skips) ∷ rest) (none : HaveNoSkip rest)
-        (unchosen : Unchosen (code_of g (code_at k f)) kind b) (once : Distinct skips)
-        (each : (u : ℕ) → In u skips → IsSkipped (code_of g (code_at k f)) (parts_for all (code_at k f)) b u) where
+        (unchosen : Unchosen (code_of g (code_at k f)) kind b) (alone : (v : ℕ) → Unchosen (code_of g (code_at k f)) kind v → v ≡ b)
+        (once : Distinct skips) (each : (u : ℕ) → In u skips → IsSkipped (code_of g (code_at k f)) (parts_for all (code_at k f)) b u)
+        (each_one : (u : ℕ) → IsSkipped (code_of g (code_at k f)) (parts_for all (code_at k f)) b u → In u skips) where
       -- the block isn't entered
       not_entered : has_entered fair.state.world f b ≡ true → ⊥
       not_entered h = unchosen-out g all k fair f there kind b thread unchosen kind_zero h
@@ -238,7 +269,7 @@ module _ (g : Graph) (accepted : IsAccepted g) (all : Partitions) (parts : AreAl
       fewer : length skips < (frame_at after f).owed
       fewer =
           let s = few-gone many (t ∷ (skips ++ own.gone)) all-once all-low in
-          let a = length-append skips own.gone in let o = own.sum in let e = (goes.goes f).owed in
+          let a = length-append skips own.gone in let o = own.sum in let e = goes.owed f in
           omega (arith, s, a, o, e)
 
       -- the state behind the skip
@@ -262,6 +293,9 @@ module _ (g : Graph) (accepted : IsAccepted g) (all : Partitions) (parts : AreAl
         zero_left = ap (λ (h : Frame). slice_get h.counts u) here ∙ r.zero_left;
         not_ready = λ i. r.not_ready (subst (λ (h : Frame). In u h.ready) here i);
       }
+
+      ran-back : (u : ℕ) → IsRun (lowered after f (length skips)) f u → IsRun after f u
+      ran-back u r = ran-as (lowered after f (length skips)) after f (sym (ap (λ (h : Frame). h.counts) here)) (sym (ap (λ (h : Frame). h.ready) here)) u r
 
       run-there : IsRun (lowered after f (length skips)) f t
       run-there = ran-there t run
@@ -291,23 +325,42 @@ module _ (g : Graph) (accepted : IsAccepted g) (all : Partitions) (parts : AreAl
         ]
       ]
 
+      -- and no other thread has run, or runs for a block that wasn't chosen
+      all-whole : (u : ℕ) → u < many → IsRun (lowered after f (length skips)) f u ⊎ IsDead g all (code_at k f) (lowered after f (length skips)) f u
+          → In u (t ∷ (skips ++ own.gone))
+      all-whole u l (inl q) = elim (goes.back u (ran-back u q)) [
+        | inl e ↦ inl e
+        | inr w ↦ inr (right-in u skips own.gone (own.whole u l (inl w)))
+      ]
+      all-whole u l (inr d) = elim (chose (lowered after f (length skips)) ran-back u d) [
+        | inl e ↦ inr (left-in u skips own.gone (each_one u (record {
+          kind = d.kind;
+          thread = d.thread;
+          number = d.number;
+          beneath = subst (λ y. Beneath (code_of g (code_at k f)) y (home (code_of g (code_at k f)) d.kind))
+              (alone d.block (subst (λ y. Unchosen (code_of g (code_at k f)) y d.block) (sym e) d.unchosen)) d.beneath;
+        })))
+        | inr w ↦ inr (right-in u skips own.gone (own.whole u l (inr w)))
+      ]
+
       skipping : Finishes g all (compiled_with g all) k (done_thread Owing skipped_state f rest)
       skipping = finishes-from g all (compiled_with g all) k skipped_state (done_thread Owing skipped_state f rest) size refl
           (λ i. elim (same-or-other f i) [
             | inl e ↦ subst (λ j. (frame_at (lowered after f (length skips)) j).owed ≤ (frame_at k.table j).owed) e
-                (let a = ap (λ (h : Frame). h.owed) here in let s = (goes.goes f).owed in omega (arith, a, s))
-            | inr d ↦ (let a = ap (λ (h : Frame). h.owed) (other i d) in let s = (goes.goes i).owed in omega (arith, a, s))
+                (let a = ap (λ (h : Frame). h.owed) here in let s = goes.owed f in omega (arith, a, s))
+            | inr d ↦ (let a = ap (λ (h : Frame). h.owed) (other i d) in let s = goes.owed i in omega (arith, a, s))
           ])
           (finishes g all facts skipped_state f t (subst (λ x. f < x) (sym size) there) rest none run-there (record {
             gone = skips ++ own.gone;
             once = all-once;
             low = all-low;
             why = all-why;
-            sum = let a = ap (λ (h : Frame). h.owed) here in let s = (goes.goes f).owed in let l = length-append skips own.gone in
+            whole = all-whole;
+            sum = let a = ap (λ (h : Frame). h.owed) here in let s = goes.owed f in let l = length-append skips own.gone in
                 let o = own.sum in let w = fewer in omega (arith, a, s, l, o, w);
           })
           (λ i d l. owes-on g all (compiled_with g all) (code_at k i) k.table (lowered after f (length skips)) i
-          (subst (Goes (frame_at k.table i)) (sym (other i d)) (goes.goes i)) (owes i (subst (λ x. i < x) size l)))
+          (subst (Goes (frame_at k.table i)) (sym (other i d)) (goes.others i d)) (owes i (subst (λ x. i < x) size l)))
           (λ m e. later m (ap (λ (x : List Instr). done_thread Plain (unowed taken_state) f (filter is_plain x)) is
           ∙ (ap (λ (x : Machine). done_thread Plain x f (filter is_plain rest)) (sym (owing_less-same taken_state f (length skips))) ∙ e))))
 
@@ -321,5 +374,5 @@ module _ (g : Graph) (accepted : IsAccepted g) (all : Partitions) (parts : AreAl
       where
         go : Shape (code_of g (code_at k f)) (parts_for all (code_at k f)) kind instrs → Finishes g all (compiled_with g all) k
             (done_thread Owing taken_state f instrs)
-        go (No_skip none) = plainly none
-        go (One_skip b skips rest is none unchosen once each) = skipped b skips rest is none unchosen once each
+        go (No_skip none chooses) = plainly none chooses
+        go (One_skip s) = skipped s.block s.skips s.rest s.begins s.none s.unchosen s.alone s.once s.each s.all

@@ -1,5 +1,6 @@
 -- A message is delivered that brings no activation: it arrives in the journal too, and all is kept.
-use Rattle.std.proofs.Common.{◌≡◌, ℕ, zero, suc, ◌<◌, ◌≤◌, Bool, true, false, not, ◌==◌, nat_lt, List, [], ◌∷◌, ◌++◌, map, Option, Some, None, slice_get, slice_index, length, is_none}
+use Rattle.std.proofs.Common.{◌≡◌, ℕ, zero, suc, ◌<◌, ◌≤◌, Bool, true, false, not, ◌==◌, nat_lt, List, [], ◌∷◌, ◌++◌, map, Option, Some, None}
+use Rattle.std.proofs.Common.{slice_get, slice_index, length, is_none}
 use Rattle.std.proofs.Common.{refl, sym, ap, ap₂, subst, ◌∙◌, inl, inr, ◌⊎◌, arith, true≢false}
 use Rattle.std.proofs.lemmas.Option.{slice_get_within}
 use Rattle.std.proofs.lemmas.List.{map-append}
@@ -9,7 +10,8 @@ use Rattle.tam_word.proofs.Members.{In, in-append, get-in, in-below}
 use Rattle.tam_msgs.specs.declared.message.Message.{Message}
 use Rattle.tam_istr.specs.Cells.{Empty, Reader}
 use Rattle.tam_graph.specs.declared.kind.Kind.{Kind}
-use Rattle.tam_graph.specs.declared.kind.Kind.TheVariants.{Param, Const, Op as Operate, Seq, Call, Arg, Ret, Give, Alloc, Fetch, Store, Cond, Switch as Choose, Merge}
+use Rattle.tam_graph.specs.declared.kind.Kind.TheVariants.{Param, Const, Op as Operate, Seq, Call, Arg, Ret, Give, Alloc, Fetch, Store, Cond}
+use Rattle.tam_graph.specs.declared.kind.Kind.TheVariants.{Switch as Choose, Merge}
 use Rattle.tam_graph.specs.declared.kind.Kind.TheVariants.{Enter, Leave}
 use Rattle.tam_graph.specs.Graphs.{Code, Graph, code_of, kind_at, is_inlet, has_value}
 use Rattle.tam_split.specs.GraphPartitions.{Partitions}

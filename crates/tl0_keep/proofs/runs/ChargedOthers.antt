@@ -37,7 +37,8 @@ use Rattle.tl0_code.specs.Machines.{Machine}
 use Rattle.tl0_code.specs.ThreadCode.{code_text, plain}
 use Rattle.tl0_keep.specs.Compiled.{compiled_with, yes_of, no_of, is_choosing}
 use Rattle.tl0_keep.proofs.code.ThreadKinds.{ThreadKind, Entry, Class, Then_of, Else_of, AreAllParts}
-use Rattle.tl0_keep.proofs.class_run.MayRun.{owner-fired, then-chosen, else-chosen}
+use Rattle.tl0_keep.proofs.class_run.Entered.{owner-fired}
+use Rattle.tl0_keep.proofs.class_run.MayRun.{then-chosen, else-chosen}
 use Rattle.tl0_keep.proofs.runs.Keeps.{parts_in, HasEntered, ChoseThen, ChoseElse, Keeps}
 use Rattle.tl0_keep.proofs.code.CodeFacts.{TextFacts, CodeFacts}
 use Rattle.tl0_keep.proofs.runs.ClassGoals.{OthersAre, IsAsking}

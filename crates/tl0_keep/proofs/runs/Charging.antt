@@ -25,7 +25,7 @@ use Rattle.tam_flow.proofs.SoundStates.{IsSoundState, sound-journal}
 use Rattle.tam_flow.proofs.WordSources.{IsWordState}
 use Rattle.tam_flow.proofs.WordsOnce.{words-journal, one-word-each}
 use Rattle.tl0_code.specs.Machines.{Machine}
-use Rattle.tl0_keep.specs.ThreadLaws.{PlainStatesAreJournals, PlainEndsAreJournals}
+use Rattle.tl0_keep.specs.ThreadLaws.{PlainStatesAreJournals, PlainEndsAreJournals, JournalsAreTheRuns}
 use Rattle.tl0_keep.proofs.code.DistinctLists.{distinct-append}
 use Rattle.tl0_keep.proofs.code.Facts.{code-facts}
 use Rattle.tl0_keep.proofs.code.RisingClasses.{partitions-parts}
@@ -39,7 +39,7 @@ use Rattle.tl0_keep.proofs.runs.EventsOnce.{AreOnce, once-all}
 use Rattle.tl0_keep.proofs.runs.ChargedClasses.{OfClass, class-charged, classes-apart}
 use Rattle.tl0_keep.proofs.runs.ChargedOthers.{OfMessage, message-charged, asking-charged, messages-apart, message-told, message-else, ThenFrom, ElseFrom}
 use Rattle.tl0_keep.proofs.runs.ChargedOthers.{entry-charged, then-charged, else-charged, thens-apart, elses-apart, then-told, else-told}
-use Rattle.tl0_keep.proofs.runs.PlainRuns.{ChargesHold, plain-states-law, plain-ends-law}
+use Rattle.tl0_keep.proofs.runs.PlainRuns.{ChargesHold, plain-states-law, plain-ends-law, own-journals-law}
 
 -- the root's thread 0
 abbrev is_root : ℕ × ThreadKind → Bool
@@ -249,3 +249,7 @@ plain-states-are-journals = plain-states-law charges-hold
 -- and so has each end
 pub plain-ends-are-journals : PlainEndsAreJournals
 plain-ends-are-journals = plain-ends-law charges-hold
+
+-- by the events of the run
+pub journals-are-the-runs : JournalsAreTheRuns
+journals-are-the-runs = own-journals-law charges-hold

@@ -10,7 +10,8 @@ use Rattle.tam_msgs.specs.declared.item.Item.{Item}
 use Rattle.tam_msgs.specs.declared.limits.Limits.{Limits}
 use Rattle.tam_msgs.specs.Messages.{outside, answers}
 use Rattle.tam_msgs.specs.Runs.{Outcome, Next, Ended, End, Double_write, Out_of_range, Cells_full, Wild, Wild_place}
-use Rattle.tam_istr.specs.Cells.{Arrays, Cell, Reader, Access, Now, Deferred, Stored, Twice, NotBelow, NoArray, cells_used, with_array, fetched_from, stored_into, in_array, store_of, Empty, Filled}
+use Rattle.tam_istr.specs.Cells.{Arrays, Cell, Reader, Access, Now, Deferred, Stored, Twice, NotBelow, NoArray, cells_used, with_array, fetched_from}
+use Rattle.tam_istr.specs.Cells.{stored_into, in_array, store_of, Empty, Filled}
 use Rattle.tam_graph.specs.Graphs.{Graph, code_of, results_of}
 use Rattle.tam_split.specs.GraphPartitions.{Partitions}
 use Rattle.tam_world.specs.Worlds.{World, Effect, Went, Printed, Faulted, Fault, Second_store, Outside_cells, activation_at, word_of, got, changes}

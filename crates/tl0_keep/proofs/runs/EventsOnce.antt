@@ -10,7 +10,8 @@ use Rattle.tam_split.specs.Partitions.{Parts, class_at, single, merged, least_pa
 use Rattle.tam_split.specs.GraphPartitions.{Partitions}
 use Rattle.tam_msgs.specs.declared.message.Message.{Message}
 use Rattle.tam_world.specs.Worlds.{Delivery, Went, Printed, Faulted, delivered}
-use Rattle.tam_flow.specs.Journals.{State, Event, Run, Deliver, initial, has_run, may_run, may_arrive, may_follow, after_event, after_delivery, deliver_all, or_message}
+use Rattle.tam_flow.specs.Journals.{State, Event, Run, Deliver, initial, has_run, may_run, may_arrive, may_follow, after_event, after_delivery}
+use Rattle.tam_flow.specs.Journals.{deliver_all, or_message}
 use Rattle.tam_flow.specs.Journals.{is_legal, is_legal_from, state_after, state_from}
 use Rattle.tam_flow.proofs.SingleRuns.{may_run-parts}
 use Rattle.tl0_keep.proofs.code.RisingClasses.{in-without, in-changed}

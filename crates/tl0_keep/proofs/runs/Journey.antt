@@ -96,20 +96,23 @@ module _ (g : Graph) (accepted : IsAccepted g) (all : Partitions) (valid : are_v
     -- a machine in which no event of the journal was made
     pub goes-beside : (u : Machine) (others : List (ℕ × ThreadKind)) → Rests g all u (state_after g all args here.events) others → u.events ≡ m.events + 1
         → m.events + 1 ≤ limits.budget → length others ≡ suc (length here.others) → Distinct others
-        → OthersAre g all (state_after g all args here.events) others → Here g all args limits u
-    goes-beside u others rests e w more once are = record {
-      events = here.events;
-      legal = here.legal;
-      others = others;
-      rests = rests;
-      few = here.few;
-      sized = let a = here.sized in omega arith;
-      arrays = let a = here.arrays in omega arith;
-      within = omega arith;
-      counted = let a = here.counted in omega arith;
-      others_once = once;
-      others_are = are;
-    }
+        → OthersAre g all (state_after g all args here.events) others → (h : Here g all args limits u) × (h.events ≡ here.events)
+    goes-beside u others rests e w more once are = (
+      record {
+        events = here.events;
+        legal = here.legal;
+        others = others;
+        rests = rests;
+        few = here.few;
+        sized = let a = here.sized in omega arith;
+        arrays = let a = here.arrays in omega arith;
+        within = omega arith;
+        counted = let a = here.counted in omega arith;
+        others_once = once;
+        others_are = are;
+      },
+      refl,
+    )
 
     module _ (e : Event) (may : may_follow g all (state_after g all args here.events) e ≡ true) where
       -- the journal with it
@@ -133,21 +136,25 @@ module _ (g : Graph) (accepted : IsAccepted g) (all : Partitions) (valid : are_v
           → u.events ≡ length (after_event g all (state_after g all args here.events) e).ran + length others
           + length (after_event g all (state_after g all args here.events) e).arrived
           → Distinct others
-          → OthersAre g all (after_event g all (state_after g all args here.events) e) others → Here g all args limits u
-      goes-with u others rests c w few sized counted once are = record {
-        events = here.events ++ e ∷ [];
-        legal = legal-on;
-        others = others;
-        rests = subst (λ z. Rests g all u z others) (sym leads-on) rests;
-        few = subst (λ (z : State). length z.world.activations < 2 ^ 32) (sym leads-on) few;
-        sized = subst (λ (z : State). length z.world.activations + length z.ran ≤ u.events + 1) (sym leads-on) sized;
-        arrays = subst (λ (z : State). length z.world.arrays ≤ u.events) (sym leads-on)
-            (let a = here.arrays in let b = (grows-event g all (state_after g all args here.events) e).arrays in omega arith);
-        within = omega arith;
-        counted = subst (λ (z : State). u.events ≡ length z.ran + length others + length z.arrived) (sym leads-on) counted;
-        others_once = once;
-        others_are = subst (λ (z : State). OthersAre g all z others) (sym leads-on) are;
-      }
+          → OthersAre g all (after_event g all (state_after g all args here.events) e) others
+          → (h : Here g all args limits u) × (h.events ≡ here.events ++ e ∷ [])
+      goes-with u others rests c w few sized counted once are = (
+        record {
+          events = here.events ++ e ∷ [];
+          legal = legal-on;
+          others = others;
+          rests = subst (λ z. Rests g all u z others) (sym leads-on) rests;
+          few = subst (λ (z : State). length z.world.activations < 2 ^ 32) (sym leads-on) few;
+          sized = subst (λ (z : State). length z.world.activations + length z.ran ≤ u.events + 1) (sym leads-on) sized;
+          arrays = subst (λ (z : State). length z.world.arrays ≤ u.events) (sym leads-on)
+              (let a = here.arrays in let b = (grows-event g all (state_after g all args here.events) e).arrays in omega arith);
+          within = omega arith;
+          counted = subst (λ (z : State). u.events ≡ length z.ran + length others + length z.arrived) (sym leads-on) counted;
+          others_once = once;
+          others_are = subst (λ (z : State). OthersAre g all z others) (sym leads-on) are;
+        },
+        refl,
+      )
 
       -- the journal with it, where activations stay few
       pub journal-on : length (after_event g all (state_after g all args here.events) e).world.activations < 2 ^ 32 → m.events + 1 ≤ limits.budget

@@ -20,7 +20,8 @@ use Rattle.tam_frames.specs.FrameTables.{Frame, FrameTable, frame_at}
 use Rattle.tl0_code.specs.ThreadCode.{Program, plain, widest_slots}
 use Rattle.tl0_code.specs.Machines.{Machine, slot}
 use Rattle.tl0_keep.specs.Compiled.{slot_of, inlet_of, yes_of, no_of, compiled_with}
-use Rattle.tl0_keep.proofs.code.ThreadKinds.{ThreadKind, Entry, Class, Then_of, Else_of, Source, Word_of, Behind, Opened, Begun, Ticket, number_of_thread, IsThread, sources_of}
+use Rattle.tl0_keep.proofs.code.ThreadKinds.{ThreadKind, Entry, Class, Then_of, Else_of, Source, Word_of, Behind, Opened, Begun, Ticket}
+use Rattle.tl0_keep.proofs.code.ThreadKinds.{number_of_thread, IsThread, sources_of}
 use Rattle.tl0_keep.proofs.code.ThreadKinds.{parts_for, inlet_thread, opener_of, poster_of, takes_messages}
 use Rattle.tl0_keep.specs.ThreadNames.{thread_message, thread_arrays}
 

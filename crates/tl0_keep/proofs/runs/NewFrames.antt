@@ -6,7 +6,8 @@ use Rattle.std.proofs.lemmas.List.{length-append, length-map, map-append, length
 use Rattle.tam_word.specs.Lists.{put_at}
 use Rattle.tam_word.proofs.Members.{In, Distinct}
 use Rattle.tam_graph.specs.declared.kind.Kind.{Kind}
-use Rattle.tam_graph.specs.declared.kind.Kind.TheVariants.{Param, Const, Op as Operate, Seq, Call, Arg, Ret, Give, Alloc, Fetch, Store, Cond, Switch as Choose, Merge}
+use Rattle.tam_graph.specs.declared.kind.Kind.TheVariants.{Param, Const, Op as Operate, Seq, Call, Arg, Ret, Give, Alloc, Fetch, Store, Cond}
+use Rattle.tam_graph.specs.declared.kind.Kind.TheVariants.{Switch as Choose, Merge}
 use Rattle.tam_graph.specs.declared.kind.Kind.TheVariants.{Enter, Leave}
 use Rattle.tam_graph.specs.Graphs.{Graph, code_of, kind_at, is_inlet, has_value}
 use Rattle.tam_split.specs.GraphPartitions.{Partitions}
@@ -20,9 +21,11 @@ use Rattle.tl0_code.specs.Machines.{Machine, slot}
 use Rattle.tl0_code.specs.ThreadCode.{code_text, plain, counts_of, widest_slots, widest_threads}
 use Rattle.tl0_keep.specs.Compiled.{slot_of, compiled_with, inlet_of}
 use Rattle.tl0_keep.proofs.giving.Places.{changed-length, get-behind}
-use Rattle.tl0_keep.proofs.code.ThreadKinds.{ThreadKind, Entry, Class, Then_of, Else_of, Source, Word_of, Behind, Opened, Begun, number_of_thread, IsThread, sources_of, parts_for}
+use Rattle.tl0_keep.proofs.code.ThreadKinds.{ThreadKind, Entry, Class, Then_of, Else_of, Source, Word_of, Behind, Opened, Begun, number_of_thread}
+use Rattle.tl0_keep.proofs.code.ThreadKinds.{IsThread, sources_of, parts_for}
 use Rattle.tl0_keep.proofs.code.ThreadKinds.{inlet_thread}
-use Rattle.tl0_keep.proofs.runs.Keeps.{IsRested, Owed, ticket, parts_in, HasRun, PostedAt, ChoseThen, ChoseElse, ReasonAt, Posted, Given, Keeps, ThreadKeeps, MessagesKeep}
+use Rattle.tl0_keep.proofs.runs.Keeps.{IsRested, Owed, ticket, parts_in, HasRun, PostedAt, ChoseThen, ChoseElse, ReasonAt, Posted, Given, Keeps}
+use Rattle.tl0_keep.proofs.runs.Keeps.{ThreadKeeps, MessagesKeep}
 use Rattle.tl0_keep.proofs.code.CodeFacts.{TextFacts, CodeFacts}
 use Rattle.tl0_keep.proofs.runs.Frames.{same-or-other, IsHeld, frame-here, frame-other, held-changed, slot-here, slot-other, slots-set, length-set}
 use Rattle.tl0_keep.proofs.runs.Reasons.{Goes, given-later, posted-later}

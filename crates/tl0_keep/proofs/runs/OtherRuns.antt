@@ -11,7 +11,8 @@ use Rattle.tam_flow.specs.Reached.{IsThere}
 use Rattle.tl0_code.specs.declared.instr.Instr.{Instr}
 use Rattle.tl0_code.specs.Machines.{Machine, Plain, Progress, Fine, done_all, then_do, at_rest}
 use Rattle.tl0_keep.specs.Compiled.{forks_to, parts_at, entry_classes, block_entry}
-use Rattle.tl0_keep.proofs.code.ThreadKinds.{ThreadKind, Entry, Class, Then_of, Else_of, Source, Word_of, Opened, Ticket, number_of_thread, IsThread, fork_tickets}
+use Rattle.tl0_keep.proofs.code.ThreadKinds.{ThreadKind, Entry, Class, Then_of, Else_of, Source, Word_of, Opened, Ticket, number_of_thread, IsThread}
+use Rattle.tl0_keep.proofs.code.ThreadKinds.{fork_tickets}
 use Rattle.tl0_keep.proofs.code.ThreadKinds.{entry_tickets, inlet_thread}
 use Rattle.tl0_keep.proofs.runs.Keeps.{Owed, ticket, parts_in, HasRun, Given, Keeps}
 use Rattle.tl0_keep.proofs.runs.Keeps.{Rests}

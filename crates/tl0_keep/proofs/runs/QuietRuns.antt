@@ -5,7 +5,8 @@ use Rattle.tam_word.specs.Lists.{where_so, below}
 use Rattle.tam_word.proofs.Tests.{number-eq, both-true, test-below, eq-number}
 use Rattle.tam_word.proofs.Members.{In, in-append, in-map, map-in, flat_map-in, in-filter, in-below, all-in, map-none}
 use Rattle.tam_graph.specs.declared.kind.Kind.{Kind}
-use Rattle.tam_graph.specs.declared.kind.Kind.TheVariants.{Param, Const, Op as Operate, Seq, Call, Arg, Ret, Give, Alloc, Fetch, Store, Cond, Switch as Choose, Merge}
+use Rattle.tam_graph.specs.declared.kind.Kind.TheVariants.{Param, Const, Op as Operate, Seq, Call, Arg, Ret, Give, Alloc, Fetch, Store, Cond}
+use Rattle.tam_graph.specs.declared.kind.Kind.TheVariants.{Switch as Choose, Merge}
 use Rattle.tam_graph.specs.declared.kind.Kind.TheVariants.{Enter, Leave}
 use Rattle.tam_graph.specs.Graphs.{Code, Graph, kind_at, block_at, node_in, node_where, is_enter, is_switch, owner_of, chosen_branch, branch_of_kind}
 use Rattle.tam_split.specs.Blocks.{BlockGraph, block_graph, vertex_at}
@@ -22,7 +23,8 @@ use Rattle.tam_frames.specs.FrameTables.{is_ready}
 use Rattle.tl0_code.specs.Machines.{Machine}
 use Rattle.tl0_code.specs.ThreadCode.{code_text, plain}
 use Rattle.tl0_keep.specs.Compiled.{compiled_with, parts_at, yes_of, no_of, waits_for, is_choosing}
-use Rattle.tl0_keep.proofs.code.ThreadKinds.{ThreadKind, Entry, Class, Then_of, Else_of, Source, Word_of, Behind, Opened, Begun, IsThread, sources_of, class_sources}
+use Rattle.tl0_keep.proofs.code.ThreadKinds.{ThreadKind, Entry, Class, Then_of, Else_of, Source, Word_of, Behind, Opened, Begun, IsThread, sources_of}
+use Rattle.tl0_keep.proofs.code.ThreadKinds.{class_sources}
 use Rattle.tl0_keep.proofs.code.ThreadKinds.{inlet_nodes_in, classes_to, connector_into, opener_of, poster_of}
 use Rattle.tl0_keep.proofs.runs.Keeps.{parts_in, HasRun, OneRan, PostedAt, ChoseThen, ChoseElse, ReasonAt, Given, Rests}
 use Rattle.tl0_keep.proofs.code.CodeFacts.{TextFacts, CodeFacts}

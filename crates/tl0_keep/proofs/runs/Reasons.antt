@@ -4,9 +4,11 @@ use Rattle.std.proofs.Common.{refl, sym, ap, subst, ◌∙◌, inl, inr, ◌⊎�
 use Rattle.tam_word.specs.Lists.{first_of}
 use Rattle.tam_word.proofs.Members.{In, in-map, in-flat_map}
 use Rattle.tam_graph.specs.declared.kind.Kind.{Kind}
-use Rattle.tam_graph.specs.declared.kind.Kind.TheVariants.{Param, Const, Op as Operate, Seq, Call, Arg, Ret, Give, Alloc, Fetch, Store, Cond, Switch as Choose, Merge}
+use Rattle.tam_graph.specs.declared.kind.Kind.TheVariants.{Param, Const, Op as Operate, Seq, Call, Arg, Ret, Give, Alloc, Fetch, Store, Cond}
+use Rattle.tam_graph.specs.declared.kind.Kind.TheVariants.{Switch as Choose, Merge}
 use Rattle.tam_graph.specs.declared.kind.Kind.TheVariants.{Enter, Leave}
-use Rattle.tam_graph.specs.Graphs.{Code, Graph, code_of, kind_at, nodes_in, node_in, node_where, node_numbers, block_at, is_enter, is_switch, owner_of, one_or_none}
+use Rattle.tam_graph.specs.Graphs.{Code, Graph, code_of, kind_at, nodes_in, node_in, node_where, node_numbers, block_at, is_enter, is_switch}
+use Rattle.tam_graph.specs.Graphs.{owner_of, one_or_none}
 use Rattle.tam_split.specs.GraphPartitions.{Partitions}
 use Rattle.tam_world.specs.Worlds.{activation_at, its_code, has_word, has_entered}
 use Rattle.tam_flow.specs.Journals.{State, has_run}

@@ -1,15 +1,14 @@
 -- One event of the plain run: the journal goes on, or the end is borne out.
-use Rattle.std.proofs.Common.{◌≡◌, ℕ, zero, suc, ◌+◌, ◌<◌, ◌≤◌, ◌^◌, Bool, true, false, ◌==◌, List, [], ◌∷◌, Option, Some, slice_get, slice_index, length, is_none, None}
-use Rattle.std.proofs.Common.{refl, sym, ap, subst, ◌∙◌, inl, inr, ◌⊎◌, arith, true≢false}
+use Rattle.std.proofs.Common.{◌≡◌, ℕ, ◌+◌, ◌<◌, ◌≤◌, ◌^◌, Bool, true, false, ◌==◌, List, [], ◌∷◌, Option, slice_index}
+use Rattle.std.proofs.Common.{◌++◌, map, length, is_none}
+use Rattle.std.proofs.Common.{refl, sym, ap, subst, ◌∙◌, inl, inr, arith, true≢false}
 use Rattle.tam_word.proofs.Tests.{number-eq, number-differs, true-both}
 use Rattle.tam_word.proofs.Members.{In}
 use Rattle.tam_msgs.specs.declared.item.Item.{Item}
-use Rattle.tam_msgs.specs.declared.item.Item.TheVariants.{Ready, Place}
-use Rattle.tam_msgs.specs.declared.choice.Choice.{Choice}
-use Rattle.tam_msgs.specs.declared.choice.Choice.TheVariants.{Quiet as Choose_quiet, Run as Choose_run, Deliver as Choose_delivery}
+use Rattle.tam_msgs.specs.declared.choice.Choice.TheVariants.{Run as Choose_run}
 use Rattle.tam_msgs.specs.declared.limits.Limits.{Limits}
 use Rattle.tam_msgs.specs.Messages.{AreLimits}
-use Rattle.tam_msgs.specs.Runs.{Outcome, Next, Ended, End, Quiet, Budget_spent, choice}
+use Rattle.tam_msgs.specs.Runs.{Outcome, Ended, Quiet, Budget_spent}
 use Rattle.tam_graph.specs.declared.kind.Kind.{Kind}
 use Rattle.tam_graph.specs.declared.kind.Kind.TheVariants.{Cond, Switch as Choose}
 use Rattle.tam_graph.specs.Graphs.{Code, Graph, kind_at, AreArguments, code_of}
@@ -17,19 +16,19 @@ use Rattle.tam_graph.specs.Accepted.{IsAccepted}
 use Rattle.tam_split.specs.GraphPartitions.{Partitions, are_valid}
 use Rattle.tam_world.specs.Worlds.{Fault, activation_at, its_code}
 use Rattle.tam_flow.specs.Journals.{State, Event, Run, state_after, after_event}
-use Rattle.tam_flow.specs.JournalLaws.{IsJournal}
 use Rattle.tam_flow.specs.Reached.{IsThere, IsReached}
 use Rattle.tam_flow.specs.RunJournals.{IsCharged}
-use Rattle.tam_flow.specs.BorneOut.{BearsOut}
-use Rattle.tam_frames.specs.FrameTables.{is_ready, frame_at}
+use Rattle.tam_frames.specs.FrameTables.{FrameTable, is_ready, next_thread}
 use Rattle.tl0_code.specs.declared.instr.Instr.{Instr}
-use Rattle.tl0_code.specs.declared.instr.Instr.TheVariants.{Imm, Mov, Op as Operate, Fork, Switch as Jump, Falloc, Send, Ret, Ialloc, Ifetch, Istore, Skip}
-use Rattle.tl0_code.specs.Machines.{spend_of, branch, slot, done, done_all, Fine, Broken, Machine, Plain, Progress, done_thread, then_do, stopped, at_rest}
+use Rattle.tl0_code.specs.Machines.{Machine, Plain, Progress, done_thread, then_do, stopped, at_rest}
 use Rattle.tl0_code.specs.ThreadRuns.{chosen, counted, run_next, run_taken, as_outcome}
 use Rattle.tl0_code.specs.ThreadCode.{code_text, plain, thread_at}
+use Rattle.tl0_keep.specs.ThreadJournals.{class_of_thread, run_events}
+use Rattle.tl0_keep.proofs.code.ThreadClasses.{kind_class, class-of-number}
+use Rattle.tl0_keep.proofs.runs.OwnEvents.{append-none}
 use Rattle.tl0_keep.specs.Compiled.{compiled_with, block_entry, switch_into, yes_of, no_of, is_choosing}
 use Rattle.tl0_keep.proofs.code.ThreadKinds.{ThreadKind, Entry, Class, Then_of, Else_of, number_of_thread, IsThread, connector_tickets, then_block, else_block}
-use Rattle.tl0_keep.proofs.runs.Keeps.{Rests, parts_in}
+use Rattle.tl0_keep.proofs.runs.Keeps.{parts_in}
 use Rattle.tl0_keep.proofs.code.CodeFacts.{CodeFacts, TextFacts}
 use Rattle.tl0_keep.proofs.runs.Frames.{IsHeld}
 use Rattle.tl0_keep.proofs.runs.Taking.{Takes, takes}
@@ -41,166 +40,7 @@ use Rattle.tl0_keep.proofs.runs.ClassGoals.{ClassRuns, Charges, OthersAre}
 use Rattle.tl0_keep.proofs.code.CodeFacts.{IsOther}
 use Rattle.tl0_keep.proofs.code.ThreadKinds.{parts_for}
 use Rattle.tl0_keep.proofs.runs.Journey.{Here, reached, journal, goes-beside, goes-with, run-size}
-
--- ---- the codes of frames stay
-
--- the codes behind it, or these
-abbrev codes_of : Progress → List ℕ → List ℕ
-codes_of (Fine m) d = m.codes
-codes_of (Broken what n) d = d
-
--- spending changes none
-spend-codes : (m : Machine) (f t : ℕ) (o : Option ℕ) → codes_of (spend_of m f t o) m.codes ≡ m.codes
-spend-codes m f t None = refl
-spend-codes m f t (Some zero) = refl
-spend-codes m f t (Some (suc n)) = refl
-
--- no instruction changes one
-one-codes : (m : Machine) (f : ℕ) (i : Instr) → codes_of (done Plain m f i) m.codes ≡ m.codes
-one-codes m f (Imm d w) = refl
-one-codes m f (Mov d a) = refl
-one-codes m f (Operate o d a b) = refl
-one-codes m f (Fork t) = spend-codes m f t (slice_get (frame_at m.table f).counts t)
-one-codes m f (Jump s t u) = spend-codes m f (branch (slot m f s) t u) (slice_get (frame_at m.table f).counts (branch (slot m f s) t u))
-one-codes m f (Falloc c i) = refl
-one-codes m f (Send r i a) = refl
-one-codes m f (Ret k a) = refl
-one-codes m f (Ialloc n i) = refl
-one-codes m f (Ifetch r x i n) = refl
-one-codes m f (Istore r x a n) = refl
-one-codes m f (Skip n) = refl
-
--- nor do several
-all-codes : (m : Machine) (f : ℕ) (is : List Instr) → codes_of (done_all Plain m f is) m.codes ≡ m.codes
-all-codes m f [] = refl
-all-codes m f (i ∷ is) = go (done Plain m f i) (one-codes m f i) (λ n. all-codes n f is)
-  where
-    go : (p : Progress) → codes_of p m.codes ≡ m.codes → ((n : Machine) → codes_of (done_all Plain n f is) n.codes ≡ n.codes)
-        → codes_of (then_do p (λ n. done_all Plain n f is)) m.codes ≡ m.codes
-    go (Fine n) e h = subst (λ (l : List ℕ). codes_of (done_all Plain n f is) l ≡ l) e (h n)
-    go (Broken what n) e h = refl
-
--- nor does a thread with its stop
-thread-codes : (m u : Machine) (f : ℕ) (is : List Instr) → done_thread Plain m f is ≡ Fine u → u.codes ≡ m.codes
-thread-codes m u f is e = ap (λ (p : Progress). codes_of p m.codes) (sym e) ∙ go (done_all Plain m f is) (all-codes m f is)
-  where
-    go : (p : Progress) → codes_of p m.codes ≡ m.codes → codes_of (then_do p (λ n. stopped Plain n f)) m.codes ≡ m.codes
-    go (Fine n) h = h
-    go (Broken what n) h = refl
-
--- ---- the choice
-
--- what a choice says
-abbrev pub ChoiceIs : Bool → ℕ → Choice → Type 0
-ChoiceIs r m Choose_quiet = (r ≡ false) × (m ≡ 0)
-ChoiceIs r m Choose_run = r ≡ true
-ChoiceIs r m (Choose_delivery k) = k < m
-
--- each is so
-pub choice-is : (order : List Item) (r : Bool) (m : ℕ) → ChoiceIs r m (choice order r m).0
-choice-is [] false zero = (refl, refl)
-choice-is [] true zero = refl
-choice-is [] true (suc m) = refl
-choice-is [] false (suc m) = omega arith
-choice-is (Ready ∷ rest) false zero = (refl, refl)
-choice-is (Ready ∷ rest) true zero = refl
-choice-is (Ready ∷ rest) true (suc m) = refl
-choice-is (Ready ∷ rest) false (suc m) = omega arith
-choice-is (Place k ∷ rest) false zero = (refl, refl)
-choice-is (Place k ∷ rest) true zero = refl
-choice-is (Place k ∷ rest) true (suc m) = omega arith
-choice-is (Place k ∷ rest) false (suc m) = omega arith
-
--- a place below the length has an element
-pub below-some : {X : Type 0} (xs : List X) (k : ℕ) → k < length xs → (x : X) × (slice_get xs k ≡ Some x)
-below-some [] k h = absurd (omega arith)
-below-some (x ∷ xs) zero h = (x, refl)
-below-some (x ∷ xs) (suc k) h = below-some xs k (omega arith)
-
--- no elements
-length-none : {X : Type 0} (xs : List X) → length xs ≡ 0 → xs ≡ []
-length-none [] h = refl
-length-none (x ∷ xs) h = absurd (omega arith)
-
--- an event is counted, and its item of the order used
-pub rests-counted : (g : Graph) (all : Partitions) (m : Machine) (s : State) (others : List (ℕ × ThreadKind)) (rest : List Item) → Rests g all m s others
-    → Rests g all (counted m rest) s others
-rests-counted g all m s others rest r = let k = r.keeps in record {
-  keeps = record {
-    frames = record {
-      frames = k.frames.frames;
-      begun = k.frames.begun;
-      codes = k.frames.codes;
-      known = k.frames.known;
-      live = k.frames.live;
-      free = k.frames.free;
-      caller = k.frames.caller;
-      root_inlet = k.frames.root_inlet;
-      inlet = k.frames.inlet;
-      width = k.frames.width;
-    };
-    slots = record { own = k.slots.own; come = k.slots.come };
-    threads = λ i n l h. let t = k.threads i n l h in record {
-      count = t.count;
-      spent = t.spent;
-      left = t.left;
-      sum = t.sum;
-      once = t.once;
-      given = t.given;
-      not_due = t.not_due;
-      spent_or_due = t.spent_or_due;
-      ready = t.ready;
-      ran_or_ready = t.ran_or_ready;
-      ran = t.ran;
-    };
-    ready = record { once = k.ready.once; threads = k.ready.threads };
-    turns = k.turns;
-    messages = record {
-      pending = k.messages.pending;
-      arrays = k.messages.arrays;
-      printed = k.messages.printed;
-      fit = k.messages.fit;
-      readers = k.messages.readers;
-      arrived_sent = k.messages.arrived_sent;
-    };
-    no_fault = k.no_fault;
-    others_there = k.others_there;
-    runs_there = k.runs_there;
-    due_once = k.due_once;
-    due_given = k.due_given;
-  };
-  rested = r.rested;
-}
-
--- ---- what comes of an event
-
--- an end that a journal bears out
-pub record EndsHere (g : Graph) (all : Partitions) (args : List ℕ) (limits : Limits) (how : End) (m : Machine) : Type 0 where
-  pub events : List Event
-  pub journal : IsJournal g all args events
-  pub printed : (state_after g all args events).printed ≡ m.printed
-  pub activations : length (state_after g all args events).world.activations ≡ m.begun
-  pub ends : BearsOut g all args limits events m.events how
-  pub charged : Charges g all args → IsCharged g all (state_after g all args events) m.events
-
--- the journal goes on, or bears the end out
-abbrev pub StepGoes : Graph → Partitions → List ℕ → Limits → Outcome Machine → Type 0
-StepGoes g all args limits (Next u) = Here g all args limits u
-StepGoes g all args limits (Ended how u) = EndsHere g all args limits how u
-
--- what is supposed of the connectors of switches: their instructions keep all, and spend what is due
-abbrev pub SwitchRuns : Graph → Partitions → List ℕ → Type 0
-SwitchRuns g all args = (events : List Event) → IsJournal g all args events → (m : Machine) (others : List (ℕ × ThreadKind))
-    → Rests g all m (state_after g all args events) others → (takes : Takes m.table) (n : ThreadKind) (x d k a b : ℕ)
-    → IsThere (state_after g all args events).world takes.frame
-    → IsThread (its_code g (state_after g all args events).world takes.frame) (parts_in g all (state_after g all args events) others takes.frame) n
-    → number_of_thread (its_code g (state_after g all args events).world takes.frame) (parts_in g all (state_after g all args events) others takes.frame) n ≡
-    takes.thread
-    → kind_at (its_code g (state_after g all args events).world takes.frame) x ≡ Choose d k a
-    → ((n ≡ Then_of x) × (b ≡ yes_of (kind_at (its_code g (state_after g all args events).world takes.frame) d)))
-    ⊎ ((n ≡ Else_of x) × (b ≡ no_of (kind_at (its_code g (state_after g all args events).world takes.frame) d)))
-    → RunsTo g all (state_after g all args events) ((takes.frame, n) ∷ others) [] (record m { table = takes.after }) takes.frame
-    (switch_into (its_code g (state_after g all args events).world takes.frame) (parts_in g all (state_after g all args events) others takes.frame) a k b)
+use Rattle.tl0_keep.proofs.runs.StepGoals.{thread-codes, length-none, rests-counted, GoesBy, SwitchRuns}
 
 module _ (g : Graph) (accepted : IsAccepted g) (all : Partitions) (valid : are_valid g all ≡ true) (args : List ℕ) (arguments : AreArguments g args)
     (limits : Limits) (ranges : AreLimits limits) (facts : CodeFacts g all) (some : SomeSource g all) (classes : ClassRuns g all args)
@@ -224,34 +64,42 @@ module _ (g : Graph) (accepted : IsAccepted g) (all : Partitions) (valid : are_v
       (inl refl))
 
   -- the budget is spent
-  pub spent-goes : (m.events == limits.budget) ≡ true → EndsHere g all args limits (Budget_spent m.events) m
-  spent-goes p = record {
-    events = here.events;
-    journal = journal g accepted all valid args arguments limits ranges m here;
-    printed = here.rests.keeps.messages.printed;
-    activations = sym here.rests.keeps.frames.begun;
-    ends = (number-eq m.events limits.budget p, refl);
-    charged = now-charged;
-  }
+  pub spent-goes : (more : List Event) → (m.events == limits.budget) ≡ true → GoesBy g all args limits here.events more (Ended (Budget_spent m.events) m)
+  spent-goes more p = (
+    record {
+      events = here.events;
+      journal = journal g accepted all valid args arguments limits ranges m here;
+      printed = here.rests.keeps.messages.printed;
+      activations = sym here.rests.keeps.frames.begun;
+      arrays = here.rests.keeps.messages.arrays;
+      ends = (number-eq m.events limits.budget p, refl, here.rests.keeps.no_fault);
+      charged = now-charged;
+    },
+    refl,
+  )
 
   -- there is room for an event
   pub room : (m.events == limits.budget) ≡ false → m.events + 1 ≤ limits.budget
   room p = let n = number-differs m.events limits.budget p in let w = here.within in omega arith
 
   -- nothing is ready or on its way
-  pub quiet-goes : is_ready m.table ≡ false → length m.pending ≡ 0 → EndsHere g all args limits Quiet m
-  quiet-goes r p = record {
-    events = here.events;
-    journal = journal g accepted all valid args arguments limits ranges m here;
-    printed = here.rests.keeps.messages.printed;
-    activations = sym here.rests.keeps.frames.begun;
-    ends = record {
-      legal = here.legal;
-      whole = here.rests.keeps.no_fault;
-      ended = none-follows g all facts args m (state_after g all args here.events) here.others here.rests now-reached r (length-none m.pending p);
-    };
-    charged = now-charged;
-  }
+  pub quiet-goes : is_ready m.table ≡ false → length m.pending ≡ 0 → GoesBy g all args limits here.events [] (Ended Quiet m)
+  quiet-goes r p = (
+    record {
+      events = here.events;
+      journal = journal g accepted all valid args arguments limits ranges m here;
+      printed = here.rests.keeps.messages.printed;
+      activations = sym here.rests.keeps.frames.begun;
+      arrays = here.rests.keeps.messages.arrays;
+      ends = record {
+        legal = here.legal;
+        whole = here.rests.keeps.no_fault;
+        ended = none-follows g all facts args m (state_after g all args here.events) here.others here.rests now-reached r (length-none m.pending p);
+      };
+      charged = now-charged;
+    },
+    refl,
+  )
 
   -- ---- a thread runs
 
@@ -286,13 +134,17 @@ module _ (g : Graph) (accepted : IsAccepted g) (all : Partitions) (valid : are_v
     other-goes : (n : ThreadKind) (is : List Instr) → its ≡ is → (In (taken.frame, n) here.others → ⊥) → IsOther n
         → IsThread c (parts_in g all (state_after g all args here.events) here.others taken.frame) n
         → RunsTo g all (state_after g all args here.events) ((taken.frame, n) ∷ here.others) [] (record m1 { table = taken.after }) taken.frame is
-        → StepGoes g all args limits outcome
-    other-goes n is e new other th r = subst (StepGoes g all args limits)
+        → GoesBy g all args limits here.events [] outcome
+    other-goes n is e new other th r = subst (GoesBy g all args limits here.events [])
         (sym (ap (λ (l : List Instr). as_outcome (done_thread Plain (record m1 { table = taken.after }) taken.frame l) m1) e
         ∙ ap (λ (p : Progress). as_outcome (then_do p (λ q. stopped Plain q taken.frame)) m1) r.runs))
-        (goes-beside g accepted all valid args arguments limits ranges m here (at_rest r.after) ((taken.frame, n) ∷ here.others)
-        (stop-rests g all r.after (state_after g all args here.events) ((taken.frame, n) ∷ here.others) r.keeps) r.events fits refl (new, here.others_once) are)
+        (beside (goes-beside g accepted all valid args arguments limits ranges m here (at_rest r.after) ((taken.frame, n) ∷ here.others)
+        (stop-rests g all r.after (state_after g all args here.events) ((taken.frame, n) ∷ here.others) r.keeps) r.events fits refl (new, here.others_once)
+        are))
       where
+        beside : {u : Machine} → (h : Here g all args limits u) × (h.events ≡ here.events) → (h : Here g all args limits u) × (h.events ≡ here.events ++ [])
+        beside (h, q) = (h, q ∙ sym (append-none here.events))
+
         are : OthersAre g all (state_after g all args here.events) ((taken.frame, n) ∷ here.others)
         are j o (inl q) = subst (λ (z : ℕ × ThreadKind). IsOther z.1 × IsThread (its_code g (state_after g all args here.events).world z.0)
             (parts_in g all (state_after g all args here.events) here.others z.0) z.1) q (other, th)
@@ -301,11 +153,11 @@ module _ (g : Graph) (accepted : IsAccepted g) (all : Partitions) (valid : are_v
     -- a class
     class-goes : (b k : ℕ) → IsThread c (parts_in g all (state_after g all args here.events) here.others taken.frame) (Class b k)
         → number_of_thread c (parts_in g all (state_after g all args here.events) here.others taken.frame) (Class b k) ≡ taken.thread
-        → StepGoes g all args limits outcome
+        → GoesBy g all args limits here.events (Run taken.frame b k ∷ []) outcome
     class-goes b k th e =
         let r = classes here.events (journal g accepted all valid args arguments limits ranges m here) m1 here.others
         (rests-counted g all m (state_after g all args here.events) here.others rest here.rests) taken b k there th e in
-        subst (StepGoes g all args limits) (sym (ap (λ (p : Progress). as_outcome p m1) r.runs))
+        subst (GoesBy g all args limits here.events (Run taken.frame b k ∷ [])) (sym (ap (λ (p : Progress). as_outcome p m1) r.runs))
         (goes-with g accepted all valid args arguments limits ranges m here (Run taken.frame b k)
         (true-both _ _ (ap (λ (o : Option Fault). is_none o) here.rests.keeps.no_fault) r.may)
         r.after here.others r.rests r.events fits
@@ -320,9 +172,14 @@ module _ (g : Graph) (accepted : IsAccepted g) (all : Partitions) (valid : are_v
         let are = here.others_are j o q in
         (are.0, subst (λ d. IsThread (code_of g d) (parts_for all d) o) same are.1)))
 
+    -- its events
+    abbrev kind_events : ThreadKind → List Event
+    kind_events n = map (λ (bk : ℕ × ℕ). Run taken.frame bk.0 bk.1) (kind_class n)
+
     -- by what the thread is
     thread-goes : (n : ThreadKind) → IsThread c (parts_in g all (state_after g all args here.events) here.others taken.frame) n
-        → number_of_thread c (parts_in g all (state_after g all args here.events) here.others taken.frame) n ≡ taken.thread → StepGoes g all args limits outcome
+        → number_of_thread c (parts_in g all (state_after g all args here.events) here.others taken.frame) n ≡ taken.thread
+        → GoesBy g all args limits here.events (kind_events n) outcome
     thread-goes Entry th e = other-goes Entry (block_entry c (parts_in g all (state_after g all args here.events) here.others taken.frame) 0)
         (ap (λ t. (thread_at (code_text (plain (compiled_with g all)) (activation_at (state_after g all args here.events).world taken.frame).code) t).instrs)
         (sym e)
@@ -335,7 +192,7 @@ module _ (g : Graph) (accepted : IsAccepted g) (all : Partitions) (valid : are_v
     thread-goes (Class b k) th e = class-goes b k th e
     thread-goes (Then_of x) th e = go (kind_at c x) refl th.1
       where
-        go : (k : Kind) → kind_at c x ≡ k → is_choosing (kind_at c x) ≡ true → StepGoes g all args limits outcome
+        go : (k : Kind) → kind_at c x ≡ k → is_choosing (kind_at c x) ≡ true → GoesBy g all args limits here.events [] outcome
         go (Cond p y n) q h = other-goes (Then_of x) (block_entry c (parts_in g all (state_after g all args here.events) here.others taken.frame) y)
             (ap (λ t. (thread_at (code_text (plain (compiled_with g all)) (activation_at (state_after g all args here.events).world taken.frame).code)
             t).instrs) (sym e)
@@ -359,7 +216,7 @@ module _ (g : Graph) (accepted : IsAccepted g) (all : Partitions) (valid : are_v
         go z q h = absurd (true≢false (sym h ∙ ap is_choosing q))
     thread-goes (Else_of x) th e = go (kind_at c x) refl th.1
       where
-        go : (k : Kind) → kind_at c x ≡ k → is_choosing (kind_at c x) ≡ true → StepGoes g all args limits outcome
+        go : (k : Kind) → kind_at c x ≡ k → is_choosing (kind_at c x) ≡ true → GoesBy g all args limits here.events [] outcome
         go (Cond p y n) q h = other-goes (Else_of x) (block_entry c (parts_in g all (state_after g all args here.events) here.others taken.frame) n)
             (ap (λ t. (thread_at (code_text (plain (compiled_with g all)) (activation_at (state_after g all args here.events).world taken.frame).code)
             t).instrs) (sym e)
@@ -383,25 +240,36 @@ module _ (g : Graph) (accepted : IsAccepted g) (all : Partitions) (valid : are_v
         go z q h = absurd (true≢false (sym h ∙ ap is_choosing q))
 
     -- so the run of the next thread
-    run-goes : StepGoes g all args limits (run_next Plain (plain (compiled_with g all)) m1)
-    run-goes = subst (StepGoes g all args limits) (sym (ap (run_taken Plain (plain (compiled_with g all)) m1) taken.next
+    run-goes : GoesBy g all args limits here.events (run_events all m (next_thread m.table).0) (run_next Plain (plain (compiled_with g all)) m1)
+    run-goes = subst (λ more. GoesBy g all args limits here.events more (run_next Plain (plain (compiled_with g all)) m1)) (sym its-events)
+        (subst (GoesBy g all args limits here.events (kind_events name.0)) (sym (ap (run_taken Plain (plain (compiled_with g all)) m1) taken.next
         ∙ ap (λ (q : ℕ). as_outcome (done_thread Plain (record m1 { table = taken.after }) taken.frame (thread_at (code_text (plain (compiled_with g all)) q)
         taken.thread).instrs) m1)
         (code-same g all m (state_after g all args here.events) here.others [] here.rests.keeps taken.frame there)))
-        (thread-goes name.0 name.1 name.2)
+        (thread-goes name.0 name.1 name.2))
       where
         name : (n : ThreadKind) × IsThread c (parts_in g all (state_after g all args here.events) here.others taken.frame) n
             × (number_of_thread c (parts_in g all (state_after g all args here.events) here.others taken.frame) n ≡ taken.thread)
         name = here.rests.keeps.ready.threads taken.frame taken.thread there (subst (λ (ts : List ℕ). In taken.thread ts) (sym taken.was) (inl refl))
 
+        its-events : run_events all m (next_thread m.table).0 ≡ kind_events name.0
+        its-events = ap (λ (o : Option (ℕ × ℕ) × FrameTable). run_events all m o.0) taken.next
+            ∙ ap (map (λ (bk : ℕ × ℕ). Run taken.frame bk.0 bk.1))
+            (ap (λ (q : ℕ). class_of_thread (parts_for all q) taken.thread)
+            (code-same g all m (state_after g all args here.events) here.others [] here.rests.keeps taken.frame there)
+            ∙ (ap (class_of_thread (parts_in g all (state_after g all args here.events) here.others taken.frame)) (sym name.2)
+            ∙ class-of-number c (parts_in g all (state_after g all args here.events) here.others taken.frame) name.0 name.1))
+
   -- a thread that is ready runs
   pub run-step : (rest : List Item) → is_ready m.table ≡ true
-      → StepGoes g all args limits (chosen Plain (plain (compiled_with g all)) limits m (Choose_run, rest))
+      → GoesBy g all args limits here.events (run_events all m (next_thread m.table).0)
+      (chosen Plain (plain (compiled_with g all)) limits m (Choose_run, rest))
   run-step rest r = go (m.events == limits.budget) refl
     where
       held : (i : ℕ) → i < length m.table.frames → IsHeld m.table i
       held i l = here.rests.keeps.frames.live i (let e = here.rests.keeps.frames.frames in omega arith)
 
-      go : (t : Bool) → (m.events == limits.budget) ≡ t → StepGoes g all args limits (chosen Plain (plain (compiled_with g all)) limits m (Choose_run, rest))
-      go true p = rw (chosen, p) (spent-goes p)
+      go : (t : Bool) → (m.events == limits.budget) ≡ t → GoesBy g all args limits here.events (run_events all m (next_thread m.table).0)
+          (chosen Plain (plain (compiled_with g all)) limits m (Choose_run, rest))
+      go true p = rw (chosen, p) (spent-goes (run_events all m (next_thread m.table).0) p)
       go false p = rw (chosen, p) (run-goes rest (room p) (takes m.table here.rests.keeps.turns here.rests.rested held r))

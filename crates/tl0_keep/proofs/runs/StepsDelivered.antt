@@ -1,6 +1,7 @@
 -- A delivery as an event of the plain run, and so each event.
-use Rattle.std.proofs.Common.{◌≡◌, ℕ, suc, ◌+◌, ◌<◌, ◌≤◌, ◌^◌, Bool, true, false, ◌==◌, List, [], ◌∷◌, ◌++◌, Option, Some, slice_get, length, is_none}
+use Rattle.std.proofs.Common.{◌≡◌, ℕ, suc, ◌+◌, ◌<◌, ◌≤◌, ◌^◌, Bool, true, false, ◌==◌, List, [], ◌∷◌, ◌++◌, map, Option, Some, slice_get, length, is_none}
 use Rattle.std.proofs.Common.{refl, sym, ap, subst, ◌∙◌, inl, inr, arith}
+use Rattle.std.specs.Prelude.{option_to_list}
 use Rattle.tam_word.specs.Lists.{without_place}
 use Rattle.tam_word.proofs.Tests.{number-eq, both-true}
 use Rattle.tam_word.proofs.Members.{In, get-in, in-below}
@@ -11,15 +12,16 @@ use Rattle.tam_msgs.specs.declared.choice.Choice.{Choice}
 use Rattle.tam_msgs.specs.declared.choice.Choice.TheVariants.{Quiet as Choose_quiet, Run as Choose_run, Deliver as Choose_delivery}
 use Rattle.tam_msgs.specs.declared.limits.Limits.{Limits}
 use Rattle.tam_msgs.specs.Messages.{outside, AreLimits}
-use Rattle.tam_msgs.specs.Runs.{Outcome, choice}
-use Rattle.tam_istr.specs.Cells.{Arrays, Cell, Access, Now, Deferred, Stored, Twice, NotBelow, NoArray, Empty, Filled, fetched_from, stored_into, fetch_of, store_of, cells_used}
-use Rattle.tam_graph.specs.declared.kind.Kind.{Kind}
+use Rattle.tam_msgs.specs.Runs.{Outcome, Ended, choice}
+use Rattle.tam_istr.specs.Cells.{Arrays, Cell, Deferred, Stored, NoArray, Empty, Filled, fetched_from, stored_into}
+use Rattle.tam_istr.specs.Cells.{fetch_of, store_of, cells_used}
 use Rattle.tam_graph.specs.declared.kind.Kind.TheVariants.{Fetch, Store}
 use Rattle.tam_graph.specs.Graphs.{Graph, code_of, kind_at, depth_at, results_of, AreArguments}
 use Rattle.tam_graph.specs.Accepted.{IsAccepted}
 use Rattle.tam_split.specs.GraphPartitions.{Partitions, are_valid}
-use Rattle.tam_world.specs.Worlds.{ActivationState, Went, Printed, Fault, Second_store, Outside_cells, activation_at, its_code, or_activation, got, begun, changes}
-use Rattle.tam_world.specs.Worlds.{accessed as accessed_in, delivered as delivered_in}
+use Rattle.tam_world.specs.Worlds.{ActivationState, Went, Printed, Fault, Second_store, Outside_cells, activation_at, its_code, or_activation, got}
+use Rattle.tam_world.specs.Worlds.{begun, changes}
+use Rattle.tam_world.specs.Worlds.{delivered as delivered_in}
 use Rattle.tam_flow.specs.Journals.{State, Deliver, state_after, may_follow, after_event, after_delivery, on_their_way, may_arrive}
 use Rattle.tam_flow.specs.Reached.{IsThere, IsReached, Has}
 use Rattle.tam_flow.specs.RunJournals.{IsCharged}
@@ -34,7 +36,9 @@ use Rattle.tl0_code.specs.Machines.{Machine, Plain}
 use Rattle.tl0_code.specs.ThreadRuns.{step_of, chosen, counted, delivered, delivered_at}
 use Rattle.tl0_code.specs.ThreadCode.{plain}
 use Rattle.tl0_keep.specs.Compiled.{compiled_with}
-use Rattle.tl0_keep.specs.ThreadNames.{thread_message}
+use Rattle.tl0_keep.specs.ThreadNames.{thread_arrays, thread_message}
+use Rattle.tl0_keep.specs.ThreadJournals.{numbers_on_way, events_of, next_events, is_last}
+use Rattle.tl0_keep.proofs.runs.OwnEvents.{numbers-are}
 use Rattle.tl0_keep.proofs.giving.Places.{in-contains, get-behind}
 use Rattle.tl0_keep.proofs.runs.Keeps.{Rests, IsForMessages}
 use Rattle.tl0_keep.proofs.code.CodeFacts.{CodeFacts}
@@ -47,47 +51,11 @@ use Rattle.tl0_keep.proofs.runs.Told.{Stays}
 use Rattle.tl0_keep.proofs.runs.Sends.{stays-got, stays-begun}
 use Rattle.tl0_keep.proofs.runs.Comes.{stays-same}
 use Rattle.tl0_keep.proofs.code.ThreadKinds.{IsThread, parts_for}
-use Rattle.tl0_keep.proofs.runs.Steps.{ChoiceIs, choice-is, below-some, EndsHere, StepGoes, SwitchRuns, spent-goes, room, quiet-goes, run-step}
+use Rattle.tl0_keep.proofs.runs.StepGoals.{ChoiceIs, choice-is, below-some, GoesBy, SwitchRuns}
+use Rattle.tl0_keep.proofs.runs.Steps.{spent-goes, room, quiet-goes, run-step}
 use Rattle.tl0_keep.proofs.runs.ClassGoals.{ClassRuns, Charges, OthersAre, IsAsking}
 use Rattle.tl0_keep.proofs.runs.Journey.{Here, reached, journal, goes-with, leads-on, journal-on, wish-few, unprinted, found-array, deep}
-
--- a fetch
-abbrev is_fetch : Kind → Bool
-is_fetch (Fetch a j) = true
-is_fetch _ = false
-
--- a store
-abbrev is_store : Kind → Bool
-is_store (Store a j v) = true
-is_store _ = false
-
--- what an access leaves has as many activations
-access-size : (s : State) (n t j : ℕ) (r : ℕ × ℕ) (v : ℕ) (acc : Access)
-    → (after_delivery s n (accessed_in s.world t j r v acc)).world.activations ≡ s.world.activations
-access-size s n t j r v (Now u) = refl
-access-size s n t j r v (Deferred rows) = refl
-access-size s n t j r v (Stored rows rs) = refl
-access-size s n t j r v (Twice first) = refl
-access-size s n t j r v (NotBelow l) = refl
-access-size s n t j r v NoArray = refl
-
--- and as many runs have been made
-access-ran : (s : State) (n t j : ℕ) (r : ℕ × ℕ) (v : ℕ) (acc : Access) → (after_delivery s n (accessed_in s.world t j r v acc)).ran ≡ s.ran
-access-ran s n t j r v (Now u) = refl
-access-ran s n t j r v (Deferred rows) = refl
-access-ran s n t j r v (Stored rows rs) = refl
-access-ran s n t j r v (Twice first) = refl
-access-ran s n t j r v (NotBelow l) = refl
-access-ran s n t j r v NoArray = refl
-
--- and this message has arrived
-access-arrived : (s : State) (n t j : ℕ) (r : ℕ × ℕ) (v : ℕ) (acc : Access) → (after_delivery s n (accessed_in s.world t j r v acc)).arrived ≡ n ∷ s.arrived
-access-arrived s n t j r v (Now u) = refl
-access-arrived s n t j r v (Deferred rows) = refl
-access-arrived s n t j r v (Stored rows rs) = refl
-access-arrived s n t j r v (Twice first) = refl
-access-arrived s n t j r v (NotBelow l) = refl
-access-arrived s n t j r v NoArray = refl
+use Rattle.tl0_keep.proofs.runs.AccessStays.{is_fetch, is_store, access-size, access-ran, access-arrived}
 
 module _ (g : Graph) (accepted : IsAccepted g) (all : Partitions) (valid : are_valid g all ≡ true) (args : List ℕ) (arguments : AreArguments g args)
     (limits : Limits) (ranges : AreLimits limits) (facts : CodeFacts g all) (some : SomeSource g all) (classes : ClassRuns g all args)
@@ -124,8 +92,8 @@ module _ (g : Graph) (accepted : IsAccepted g) (all : Partitions) (valid : are_v
           → Delivers g all v here.others (m.events + 1) o
           → length v.world.activations < 2 ^ 32 → length v.world.activations + length v.ran ≤ (m.events + 1) + 1
           → m.events + 1 ≡ length v.ran + length here.others + length v.arrived → Stays (state_after g all args here.events).world v.world
-          → StepGoes g all args limits o
-      goes-on v o e d few sized counted stays = subst (StepGoes g all args limits) (sym d.goes)
+          → GoesBy g all args limits here.events (Deliver n ∷ []) o
+      goes-on v o e d few sized counted stays = subst (GoesBy g all args limits here.events (Deliver n ∷ [])) (sym d.goes)
           (goes-with g accepted all valid args arguments limits ranges m here (Deliver n) may-follow d.after here.others
           (subst (λ z. Rests g all d.after z here.others) (sym e) d.rests) d.same_events fits
           (subst (λ (z : State). length z.world.activations < 2 ^ 32) (sym e) few)
@@ -157,17 +125,25 @@ module _ (g : Graph) (accepted : IsAccepted g) (all : Partitions) (valid : are_v
       -- a fault is the journal's last event
       faulted : IsAsking x → (q : Fault) → after_event g all (state_after g all args here.events) (Deliver n)
           ≡ record (state_after g all args here.events) { fault = Some q; arrived = n ∷ (state_after g all args here.events).arrived }
-          → EndsHere g all args limits (end_of q) taken
-      faulted asks q e = record {
-        events = here.events ++ Deliver n ∷ [];
-        journal = journal-on g accepted all valid args arguments limits ranges m here (Deliver n) may-follow
-            (subst (λ (z : State). length z.world.activations < 2 ^ 32) (sym e) here.few) fits;
-        printed = ap (λ (z : State). z.printed) now ∙ here.rests.keeps.messages.printed;
-        activations = ap (λ (z : State). length z.world.activations) now ∙ sym here.rests.keeps.frames.begun;
-        ends = end q (ap (λ (z : State). z.fault) now);
-        charged = λ charges. subst (λ (z : State). IsCharged g all z (m.events + 1)) (sym now) (charged-on asks charges);
-      }
+          → GoesBy g all args limits here.events (Deliver n ∷ []) (Ended (end_of q) taken)
+      faulted asks q e = (
+        record {
+          events = here.events ++ Deliver n ∷ [];
+          journal = journal-on g accepted all valid args arguments limits ranges m here (Deliver n) may-follow
+              (subst (λ (z : State). length z.world.activations < 2 ^ 32) (sym e) here.few) fits;
+          printed = ap (λ (z : State). z.printed) now ∙ here.rests.keeps.messages.printed;
+          activations = ap (λ (z : State). length z.world.activations) now ∙ sym here.rests.keeps.frames.begun;
+          arrays = ap (λ (z : State). thread_arrays g z.world z.world.arrays) now ∙ here.rests.keeps.messages.arrays;
+          ends = end q (ap (λ (z : State). z.fault) now);
+          charged = λ charges. subst (λ (z : State). IsCharged g all z (m.events + 1)) (sym now) (charged-on asks charges);
+        },
+        last q,
+      )
         where
+          last : (q : Fault) → here.events ++ Deliver n ∷ [] ≡ elim (is_last (end_of q)) [ true ↦ here.events ++ Deliver n ∷ [] | false ↦ here.events ]
+          last (Second_store a b) = refl
+          last (Outside_cells a i l) = refl
+
           now : state_after g all args (here.events ++ Deliver n ∷ [])
               ≡ record (state_after g all args here.events) { fault = Some q; arrived = n ∷ (state_after g all args here.events).arrived }
           now = leads-on g accepted all valid args arguments limits ranges m here (Deliver n) may-follow ∙ e
@@ -185,33 +161,39 @@ module _ (g : Graph) (accepted : IsAccepted g) (all : Partitions) (valid : are_v
           (state_after g all args here.events).ran
           → (after_delivery (state_after g all args here.events) n (delivered_in (state_after g all args here.events).world x)).arrived
           ≡ n ∷ (state_after g all args here.events).arrived
-          → IsAsking x → StepGoes g all args limits o
+          → IsAsking x → GoesBy g all args limits here.events (Deliver n ∷ []) o
       comes o (inl d) a b c asks = goes-on (after_delivery (state_after g all args here.events) n (delivered_in (state_after g all args here.events).world
           x)) o leads-to d
           (subst (λ (l : List ActivationState). length l < 2 ^ 32) (sym a) here.few) (let z = here.sized in let w =
           ap (λ (l : List ActivationState). length l) a in let y = ap (λ (l : List (ℕ × ℕ × ℕ)). length l) b in omega arith)
           (let z = here.counted in let y = ap (λ (l : List (ℕ × ℕ × ℕ)). length l) b in let x = ap (λ (l : List ℕ). length l) c in omega arith)
           (stays-same _ _ a)
-      comes o (inr (inl (q, d, e))) a b c asks = subst (StepGoes g all args limits) (sym e)
+      comes o (inr (inl (q, d, e))) a b c asks = subst (GoesBy g all args limits here.events (Deliver n ∷ [])) (sym e)
           (faulted asks q (leads-to ∙ ap (after_delivery (state_after g all args here.events) n) d))
-      comes o (inr (inr (l, (f, (i, (is, low, e)))))) a b c asks = subst (StepGoes g all args limits) (sym e) (record {
-        events = here.events;
-        journal = journal g accepted all valid args arguments limits ranges m here;
-        printed = here.rests.keeps.messages.printed;
-        activations = sym here.rests.keeps.frames.begun;
-        ends = (
-          low,
-          sym (used-told g (state_after g all args here.events).world (state_after g all args here.events).world.arrays)
-              ∙ ap cells_used here.rests.keeps.messages.arrays,
-          (
-            f,
-            i,
-            in-contains (on_their_way (state_after g all args here.events)) (Make l f i)
-                (subst (λ q. In q (on_their_way (state_after g all args here.events))) is (get-in (on_their_way (state_after g all args here.events)) k x at)),
-          ),
-        );
-        charged = charged-on asks;
-      })
+      comes o (inr (inr (l, (f, (i, (is, low, e)))))) a b c asks = subst (GoesBy g all args limits here.events (Deliver n ∷ [])) (sym e) (
+        record {
+          events = here.events;
+          journal = journal g accepted all valid args arguments limits ranges m here;
+          printed = here.rests.keeps.messages.printed;
+          activations = sym here.rests.keeps.frames.begun;
+          arrays = here.rests.keeps.messages.arrays;
+          ends = (
+            low,
+            sym (used-told g (state_after g all args here.events).world (state_after g all args here.events).world.arrays)
+                ∙ ap cells_used here.rests.keeps.messages.arrays,
+            (
+              f,
+              i,
+              in-contains (on_their_way (state_after g all args here.events)) (Make l f i)
+                  (subst (λ q. In q (on_their_way (state_after g all args here.events))) is
+                  (get-in (on_their_way (state_after g all args here.events)) k x at)),
+            ),
+            here.rests.keeps.no_fault,
+          );
+          charged = charged-on asks;
+        },
+        refl,
+      )
 
     -- an array that a fetch names is there
     fetched-there : (a j f i t : ℕ) → slice_get (on_their_way (state_after g all args here.events)) k ≡ Some (Ask_cell a j f i t)
@@ -268,8 +250,8 @@ module _ (g : Graph) (accepted : IsAccepted g) (all : Partitions) (valid : are_v
             never (Filled w u) e = cc
 
     -- a word goes outside
-    out-goes : (i u : ℕ) → slice_get (on_their_way (state_after g all args here.events)) k ≡ Some (Carry outside i u) → i < results_of (code_of g g.main)
-        → StepGoes g all args limits
+    out-goes : (i u : ℕ) (at : slice_get (on_their_way (state_after g all args here.events)) k ≡ Some (Carry outside i u)) → i < results_of (code_of g g.main)
+        → GoesBy g all args limits here.events (Deliver (n (Carry outside i u) at) ∷ [])
         (delivered Plain (plain (compiled_with g all)) limits taken (thread_message g (state_after g all args here.events).world (Carry outside i u)))
     out-goes i u at low = goes-on (Carry outside i u) at
         (record (state_after g all args here.events) {
@@ -284,9 +266,9 @@ module _ (g : Graph) (accepted : IsAccepted g) (all : Partitions) (valid : are_v
         (stays-same _ _ refl)
 
     -- a word comes to a node
-    in-goes : (f i u : ℕ) → slice_get (on_their_way (state_after g all args here.events)) k ≡ Some (Carry f i u)
+    in-goes : (f i u : ℕ) (at : slice_get (on_their_way (state_after g all args here.events)) k ≡ Some (Carry f i u))
         → IsForMessages g (state_after g all args here.events).world f i
-        → StepGoes g all args limits
+        → GoesBy g all args limits here.events (Deliver (n (Carry f i u) at) ∷ [])
         (delivered Plain (plain (compiled_with g all)) limits taken (thread_message g (state_after g all args here.events).world (Carry f i u)))
     in-goes f i u at for = goes-on (Carry f i u) at
         (record (state_after g all args here.events) {
@@ -304,8 +286,8 @@ module _ (g : Graph) (accepted : IsAccepted g) (all : Partitions) (valid : are_v
         (let z = here.counted in omega arith) (stays-got (state_after g all args here.events).world f i u)
 
     -- an activation begins
-    wish-goes : (c f i : ℕ) → slice_get (on_their_way (state_after g all args here.events)) k ≡ Some (Begin c f i)
-        → StepGoes g all args limits
+    wish-goes : (c f i : ℕ) (at : slice_get (on_their_way (state_after g all args here.events)) k ≡ Some (Begin c f i))
+        → GoesBy g all args limits here.events (Deliver (n (Begin c f i) at) ∷ [])
         (delivered Plain (plain (compiled_with g all)) limits taken (thread_message g (state_after g all args here.events).world (Begin c f i)))
     wish-goes c f i at = goes-on (Begin c f i) at
         (after_delivery (state_after g all args here.events) (n (Begin c f i) at) (delivered_in (state_after g all args here.events).world (Begin c f i))) _
@@ -338,21 +320,21 @@ module _ (g : Graph) (accepted : IsAccepted g) (all : Partitions) (valid : are_v
             (then-reached.activations.codes (length (state_after g all args here.events).world.activations) (let e = size in omega arith))
 
     -- by the message
-    message-goes : (x : Message) → slice_get (on_their_way (state_after g all args here.events)) k ≡ Some x
-        → StepGoes g all args limits (delivered Plain (plain (compiled_with g all)) limits taken (thread_message g (state_after g all args here.events).world
-        x))
+    message-goes : (x : Message) (at : slice_get (on_their_way (state_after g all args here.events)) k ≡ Some x)
+        → GoesBy g all args limits here.events (Deliver (n x at) ∷ [])
+        (delivered Plain (plain (compiled_with g all)) limits taken (thread_message g (state_after g all args here.events).world x))
     message-goes (Carry f i u) at =
         elim (message-fits g all facts args m (state_after g all args here.events) here.others here.rests.keeps k (Carry f i u) at) [
           | inl (e, low) ↦ outward f e low at
           | inr for ↦ in-goes f i u at for
         ]
       where
-        outward : (f : ℕ) → f ≡ outside → i < results_of (code_of g g.main) → slice_get (on_their_way (state_after g all args here.events)) k ≡ Some
-            (Carry f i u)
-            → StepGoes g all args limits
+        outward : (f : ℕ) → f ≡ outside → i < results_of (code_of g g.main)
+            → (at : slice_get (on_their_way (state_after g all args here.events)) k ≡ Some (Carry f i u))
+            → GoesBy g all args limits here.events (Deliver (n (Carry f i u) at) ∷ [])
             (delivered Plain (plain (compiled_with g all)) limits taken (thread_message g (state_after g all args here.events).world (Carry f i u)))
-        outward f e low = subst (λ f. slice_get (on_their_way (state_after g all args here.events)) k ≡ Some (Carry f i u)
-            → StepGoes g all args limits
+        outward f e low = subst (λ f. (at : slice_get (on_their_way (state_after g all args here.events)) k ≡ Some (Carry f i u))
+            → GoesBy g all args limits here.events (Deliver (n (Carry f i u) at) ∷ [])
             (delivered Plain (plain (compiled_with g all)) limits taken (thread_message g (state_after g all args here.events).world (Carry f i u))))
             (sym e) (λ at. out-goes i u at low)
     message-goes (Begin c f i) at = wish-goes c f i at
@@ -381,35 +363,48 @@ module _ (g : Graph) (accepted : IsAccepted g) (all : Partitions) (valid : are_v
         (stored_into (state_after g all args here.events).world.arrays a j v t)) tt
 
     -- so the delivery of the message at the place
-    pub delivery-goes : k < length m.pending → StepGoes g all args limits (delivered_at Plain (plain (compiled_with g all)) limits (counted m rest) k
-        (slice_get m.pending k))
+    pub delivery-goes : k < length m.pending
+        → GoesBy g all args limits here.events (map Deliver (option_to_list (slice_get (numbers_on_way (state_after g all args here.events)) k)))
+        (delivered_at Plain (plain (compiled_with g all)) limits (counted m rest) k (slice_get m.pending k))
     delivery-goes l =
         let r = below-some m.pending k l in
         let q = map-get (thread_message g (state_after g all args here.events).world) (on_their_way (state_after g all args here.events)) k r.0
         (ap (λ (l : List Message). slice_get l k) here.rests.keeps.messages.pending ∙ r.1) in
-        subst (λ (o : Option Message). StepGoes g all args limits (delivered_at Plain (plain (compiled_with g all)) limits (counted m rest) k o))
-        (sym (r.1 ∙ ap Some (sym q.2))) (message-goes q.0 q.1)
+        subst (λ (o : Option Message). GoesBy g all args limits here.events
+        (map Deliver (option_to_list (slice_get (numbers_on_way (state_after g all args here.events)) k)))
+        (delivered_at Plain (plain (compiled_with g all)) limits (counted m rest) k o))
+        (sym (r.1 ∙ ap Some (sym q.2)))
+        (subst (λ more. GoesBy g all args limits here.events more
+        (delivered Plain (plain (compiled_with g all)) limits taken (thread_message g (state_after g all args here.events).world q.0)))
+        (sym (ap (λ (o : Option ℕ). map Deliver (option_to_list o)) (ap (λ (l : List ℕ). slice_get l k) (numbers-are (state_after g all args here.events))
+        ∙ (found g all facts args m (state_after g all args here.events) here.others here.rests.keeps k q.0 q.1).stands)))
+        (message-goes q.0 q.1))
 
   -- ---- each event
 
   -- a delivery
   delivery-step : (k : ℕ) (rest : List Item) → k < length m.pending
-      → StepGoes g all args limits (chosen Plain (plain (compiled_with g all)) limits m (Choose_delivery k, rest))
+      → GoesBy g all args limits here.events (map Deliver (option_to_list (slice_get (numbers_on_way (state_after g all args here.events)) k)))
+      (chosen Plain (plain (compiled_with g all)) limits m (Choose_delivery k, rest))
   delivery-step k rest l = go (m.events == limits.budget) refl
     where
       go : (t : Bool) → (m.events == limits.budget) ≡ t
-          → StepGoes g all args limits (chosen Plain (plain (compiled_with g all)) limits m (Choose_delivery k, rest))
-      go true p = rw (chosen, p) (spent-goes g accepted all valid args arguments limits ranges facts some classes switches m here p)
+          → GoesBy g all args limits here.events (map Deliver (option_to_list (slice_get (numbers_on_way (state_after g all args here.events)) k)))
+          (chosen Plain (plain (compiled_with g all)) limits m (Choose_delivery k, rest))
+      go true p = rw (chosen, p) (spent-goes g accepted all valid args arguments limits ranges facts some classes switches m here
+          (map Deliver (option_to_list (slice_get (numbers_on_way (state_after g all args here.events)) k))) p)
       go false p = rw (chosen, p) (delivery-goes k rest (room g accepted all valid args arguments limits ranges facts some classes switches m here p) l)
 
   -- what was chosen
   chosen-step : (c : Choice) (rest : List Item) → ChoiceIs (is_ready m.table) (length m.pending) c
-      → StepGoes g all args limits (chosen Plain (plain (compiled_with g all)) limits m (c, rest))
+      → GoesBy g all args limits here.events (events_of all m (state_after g all args here.events) (c, rest))
+      (chosen Plain (plain (compiled_with g all)) limits m (c, rest))
   chosen-step Choose_quiet rest h = quiet-goes g accepted all valid args arguments limits ranges facts some classes switches m here h.0 h.1
   chosen-step Choose_run rest h = run-step g accepted all valid args arguments limits ranges facts some classes switches m here rest h
   chosen-step (Choose_delivery k) rest h = delivery-step k rest h
 
   -- one event
-  pub step-goes : StepGoes g all args limits (step_of Plain (plain (compiled_with g all)) limits m)
+  pub step-goes : GoesBy g all args limits here.events (next_events all m (state_after g all args here.events))
+      (step_of Plain (plain (compiled_with g all)) limits m)
   step-goes = chosen-step (choice m.order (is_ready m.table) (length m.pending)).0 (choice m.order (is_ready m.table) (length m.pending)).1
       (choice-is m.order (is_ready m.table) (length m.pending))

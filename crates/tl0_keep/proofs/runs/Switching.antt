@@ -7,7 +7,8 @@ use Rattle.tam_word.proofs.Tests.{number-eq, both-true, true-both, self-eq}
 use Rattle.tam_word.proofs.Members.{In, any-in, in-any, in-filter, filter-in, map-in, left-in, right-in, in-below, below-in}
 use Rattle.tam_graph.specs.declared.kind.Kind.{Kind}
 use Rattle.tam_graph.specs.declared.kind.Kind.TheVariants.{Cond, Switch as Choose, Enter}
-use Rattle.tam_graph.specs.Graphs.{Code, Graph, kind_at, block_at, operands_of, is_inlet, is_split, nodes_in, node_in, node_where, is_switch, is_enter, owner_of, chosen_branch, branch_of_kind}
+use Rattle.tam_graph.specs.Graphs.{Code, Graph, kind_at, block_at, operands_of, is_inlet, is_split, nodes_in, node_in, node_where, is_switch}
+use Rattle.tam_graph.specs.Graphs.{is_enter, owner_of, chosen_branch, branch_of_kind}
 use Rattle.tam_graph.specs.Accepted.{IsAccepted}
 use Rattle.tam_split.specs.declared.vertex.Vertex.{Vertex}
 use Rattle.tam_split.specs.Blocks.{block_graph, vertex_at, or_vertex, vertices_in}
@@ -37,7 +38,7 @@ use Rattle.tl0_keep.proofs.runs.Later.{put-due, put-there}
 use Rattle.tl0_keep.proofs.runs.Reasons.{in-first}
 use Rattle.tl0_keep.proofs.runs.Taking.{Takes}
 use Rattle.tl0_keep.proofs.runs.OtherRuns.{RunsTo, other-begins}
-use Rattle.tl0_keep.proofs.runs.Steps.{SwitchRuns}
+use Rattle.tl0_keep.proofs.runs.StepGoals.{SwitchRuns}
 use Rattle.tl0_keep.proofs.class_run.Slots.{operand-slot, spent-all}
 
 -- a switch

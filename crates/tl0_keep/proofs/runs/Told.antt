@@ -8,7 +8,8 @@ use Rattle.tam_word.proofs.Members.{In}
 use Rattle.tam_msgs.specs.declared.message.Message.{Message}
 use Rattle.tam_msgs.specs.declared.message.Message.TheVariants.{Word as Carry, Frame as Begin, Cells as Make, Fetch as Ask_cell, Store as Put_cell}
 use Rattle.tam_msgs.specs.Messages.{outside, answers}
-use Rattle.tam_istr.specs.Cells.{Cell, Empty, Filled, Reader, Arrays, Access, Now, Deferred, Stored, Twice, NotBelow, NoArray, cells_used, with_array, with_cell}
+use Rattle.tam_istr.specs.Cells.{Cell, Empty, Filled, Reader, Arrays, Access, Now, Deferred, Stored, Twice, NotBelow, NoArray, cells_used, with_array}
+use Rattle.tam_istr.specs.Cells.{with_cell}
 use Rattle.tam_istr.specs.Cells.{fetched_from, stored_into, in_array, fetch_of, store_of}
 use Rattle.tam_graph.specs.Graphs.{Graph, code_of, kind_at}
 use Rattle.tam_graph.specs.declared.kind.Kind.TheVariants.{Call as Invoke}

@@ -10,4 +10,3 @@ pub mod SwitchNodes
 pub mod EntryLists
 pub mod TablesKept
 pub mod InstrFacts
-mod SumCode

@@ -15,8 +15,6 @@ mod inlet_threads;
 mod instructions;
 mod node_tables;
 mod standing;
-#[cfg(test)]
-mod tests;
 
 pub use code_tables::CodeTables;
 pub use emission::emit;

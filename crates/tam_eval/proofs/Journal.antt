@@ -1,11 +1,11 @@
 -- Each run of an accepted graph is a journal over one class per vertex, given the invariant of journals.
-use Rattle.std.proofs.Common.{◌≡◌, ℕ, suc, ◌+◌, ◌<◌, false, List, [], ◌∷◌, refl, sym, subst, ap, inl, inr, ◌∙◌}
+use Rattle.std.proofs.Common.{◌≡◌, ◌≤◌, ℕ, suc, ◌+◌, ◌<◌, false, List, [], ◌∷◌, refl, sym, subst, ap, inl, inr, ◌∙◌}
 use Rattle.std.proofs.Common.{true≢false, length, Some, None, Option, arith, Contains}
 use Rattle.std.specs.Prelude.{IsTrue}
 use Rattle.tam_word.proofs.Members.{In}
 use Rattle.tam_graph.specs.Graphs.{Graph}
 use Rattle.tam_graph.specs.Accepted.{IsAccepted}
-use Rattle.tam_split.specs.GraphPartitions.{Partitions, singles}
+use Rattle.tam_split.specs.GraphPartitions.{singles}
 use Rattle.tam_split.proofs.SinglesValid.{singles-valid}
 use Rattle.tam_msgs.specs.declared.message.Message.TheVariants.{Frame as Begin, Cells as Make}
 use Rattle.tam_msgs.specs.declared.limits.Limits.{Limits}
@@ -13,16 +13,14 @@ use Rattle.tam_msgs.specs.Runs.{run_from, End, Quiet, Double_write, Out_of_range
 use Rattle.tam_istr.specs.Cells.{cells_used}
 use Rattle.tam_world.specs.Worlds.{Fault, Second_store, Outside_cells, opening}
 use Rattle.tam_flow.specs.Journals.{State, Event, initial, is_legal, state_after, on_their_way, may_follow, IsQuiet}
-use Rattle.tam_flow.specs.JournalLaws.{IsJournal}
 use Rattle.tam_flow.specs.RunJournals.{IsCharged, EndsSo}
 use Rattle.tam_flow.specs.ReachedLaw.{JournalsAreReached}
-use Rattle.tam_flow.specs.Reached.{IsReached}
 use Rattle.tam_eval.specs.GraphRuns.{GraphState, graph_step, graph_opening, joins, nothing_begun}
 use Rattle.tam_eval.specs.GraphLaws.{GraphRunsAreJournals}
 use Rattle.tam_eval.proofs.WorldSizes.{Few}
 use Rattle.tam_eval.proofs.StepsCaughtUp.{AllReached, reached-now, reached-on}
 use Rattle.tam_eval.proofs.Opening.{opening-follows, opening-same, opening-charge}
-use Rattle.tam_eval.proofs.Running.{EndFits, EndGoes, run-goes}
+use Rattle.tam_eval.proofs.Running.{EndFits, EndGoes, run-goes, opening-sized}
 use Rattle.tam_eval.proofs.Charges.{Charged}
 use Rattle.tam_eval.proofs.Instances.{charged-is}
 use Rattle.tam_eval.proofs.Quiet.{none-follows}
@@ -108,7 +106,7 @@ ends-so g acc args limits events how made legal all fits charged = record {
     }
 
     frames : (n : ℕ) → EndFits g limits (state_after g (singles g) args events) made (Frames_full n) → (n ≡ limits.frames)
-        × (length (state_after g (singles g) args events).world.activations ≡ n)
+        × (n ≤ length (state_after g (singles g) args events).world.activations)
         × ((c f x : ℕ) × Contains (on_their_way (state_after g (singles g) args events)) (Begin c f x))
     frames n (w, m, e, l, (c, f, x, i)) = (e, l, (c, f, x, in-contains (Begin c f x) (on_their_way (state_after g (singles g) args events)) i))
 
@@ -153,7 +151,7 @@ graph_runs-journals invariant g args order limits acc arguments ranges = record 
         (run_from (graph_step g limits) limits.budget d).1)
         (sym (opening-same g args order))
         (run-goes g acc args limits limits.budget (initial g args) all 0 (omega arith) ranges
-        (let f = ranges.some_frame in record { activations = omega arith; arrays = omega arith })
+        (opening-sized g args)
         (opening-charge g args) (joins g nothing_begun (opening g)) order (opening-follows g args))
 
     after : AllReached g args (state_after g (singles g) args goes.events)

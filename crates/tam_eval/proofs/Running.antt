@@ -1,8 +1,10 @@
 -- A run of the graph is a journal: event by event to its end.
 use Rattle.std.proofs.Common.{◌≡◌, ℕ, zero, suc, ◌+◌, ◌<◌, ◌≤◌, Bool, true, false, List, [], ◌∷◌, ◌++◌, refl, sym, subst, ap, inl, inr}
-use Rattle.std.proofs.Common.{◌∙◌, ◌==◌, nat_lt, true≢false, length, slice_get, Some, None, arith}
+use Rattle.std.proofs.Common.{⊎_elim, ◌⊎◌, ◌∙◌, ◌==◌, nat_lt, true≢false, length, slice_get, Some, None, arith}
 use Rattle.tam_word.proofs.Tests.{number-eq, eq-number, number-differs}
-use Rattle.tam_word.proofs.Members.{In}
+use Rattle.std.specs.Prelude.{zip}
+use Rattle.tam_word.specs.Lists.{below}
+use Rattle.tam_word.proofs.Members.{In, in-flat_map}
 use Rattle.tam_graph.specs.Graphs.{Graph}
 use Rattle.tam_graph.specs.Accepted.{IsAccepted}
 use Rattle.tam_split.specs.GraphPartitions.{singles}
@@ -18,10 +20,14 @@ use Rattle.tam_msgs.specs.Runs.{End, Quiet, Double_write, Out_of_range, Frames_f
 use Rattle.tam_msgs.specs.Messages.{AreLimits}
 use Rattle.tam_istr.specs.Cells.{Arrays, cells_used}
 use Rattle.tam_world.specs.Worlds.{World, Delivery, Went, Printed, Faulted, Fault, Second_store, Outside_cells, delivered, fired}
-use Rattle.tam_flow.specs.Journals.{State, Event, Deliver, on_their_way, may_follow}
+use Rattle.tam_world.specs.Worlds.{argument_message}
+use Rattle.tam_flow.specs.Journals.{State, Event, Deliver, on_their_way, may_follow, initial}
 use Rattle.tam_word.proofs.Tests.{test-below}
-use Rattle.tam_eval.specs.GraphRuns.{GraphState, graph_step, chosen, some_ready, refusal, delivered_unless, after_delivery, end_of}
+use Rattle.tam_eval.specs.GraphRuns.{GraphState, graph_step, chosen, some_ready, refusal, live_activations, delivered_unless, after_delivery, end_of}
+use Rattle.tam_eval.proofs.LiveCount.{live-most}
 use Rattle.tam_eval.proofs.Follows.{Follows, graph_of}
+use Rattle.tam_eval.proofs.Opening.{opening-same}
+use Rattle.tam_eval.proofs.OpeningCounts.{argument-no_wish}
 use Rattle.tam_eval.proofs.Charges.{Charge, Charged, charge-charged, charged-same}
 use Rattle.tam_eval.proofs.WorldSizes.{Few, fired-size, SizedAfter, delivered-sized}
 use Rattle.tam_eval.proofs.StepsCaughtUp.{GoesOn, AllReached, goes-then, reached-on}
@@ -41,7 +47,7 @@ abbrev pub EndFits : Graph → Limits → State → ℕ → End → Type 0
 EndFits g limits t made Quiet = Follows g [] t × (on_their_way t ≡ []) × Few t.world
 EndFits g limits t made (Double_write a b) = t.fault ≡ Some (Second_store a b)
 EndFits g limits t made (Out_of_range a i l) = t.fault ≡ Some (Outside_cells a i l)
-EndFits g limits t made (Frames_full n) = (t.fault ≡ None) × MayGoOn g t × (n ≡ limits.frames) × (length t.world.activations ≡ n)
+EndFits g limits t made (Frames_full n) = (t.fault ≡ None) × MayGoOn g t × (n ≡ limits.frames) × (n ≤ length t.world.activations)
     × ((c f x : ℕ) × In (Begin c f x) (on_their_way t))
 EndFits g limits t made (Cells_full u l) = (t.fault ≡ None) × MayGoOn g t × (limits.cells < u + l) × (cells_used t.world.arrays ≡ u)
     × ((f x : ℕ) × In (Make l f x) (on_their_way t))
@@ -60,14 +66,19 @@ pub record EndGoes (g : Graph) (limits : Limits) (s : State) (how : End) (d : Gr
   pub charged : Charged g state d.events
   pub few : Few state.world
 
--- activations are as many as the limits allow, arrays as many as the events
-pub record Sized (limits : Limits) (w : World) (made : ℕ) : Type 0 where
-  pub activations : length w.activations ≤ limits.frames
+-- no more activations and arrays than events
+pub record Sized (w : World) (made : ℕ) : Type 0 where
+  pub activations : length w.activations ≤ made
   pub arrays : length w.arrays ≤ made
+
+-- or, before the first, no activation but the root, and no message that wishes for one
+pub record SizedBefore (s : State) (made : ℕ) : Type 0 where
+  pub activations : (length s.world.activations ≤ made) ⊎ ((length s.world.activations ≤ 1) × ((c f x : ℕ) → ¬ In (Begin c f x) (on_their_way s)))
+  pub arrays : length s.world.arrays ≤ made
 
 -- what comes of one event
 abbrev pub StepGoes : Graph → Limits → State → ℕ → Outcome GraphState → Type 0
-StepGoes g limits s made (Next d) = GoesTo g s d × (d.events ≡ made + 1) × ((made == limits.budget) ≡ false) × Sized limits d.world (made + 1)
+StepGoes g limits s made (Next d) = GoesTo g s d × (d.events ≡ made + 1) × ((made == limits.budget) ≡ false) × Sized d.world (made + 1)
 StepGoes g limits s made (Ended how d) = EndGoes g limits s how d
 
 -- ---- choices
@@ -107,11 +118,15 @@ length-none (x ∷ xs) h = absurd (omega arith)
 -- ---- one event
 
 module _ (g : Graph) (acc : IsAccepted g) (args : List ℕ) (limits : Limits) (s : State) (all : AllReached g args s) (made : ℕ)
-    (ranges : AreLimits limits) (sized : Sized limits s.world made) (within : made ≤ limits.budget) (charge : Charge g s made) where
+    (ranges : AreLimits limits) (sized : SizedBefore s made) (within : made ≤ limits.budget) (charge : Charge g s made) where
   -- few activations and arrays
   few : Few s.world
-  few = let a = sized.activations in let b = sized.arrays in let c = ranges.few_frames in let d = ranges.budget in
-      record { activations = omega arith; arrays = omega arith }
+  few = let b = sized.arrays in let d = ranges.budget in
+      record { activations = ⊎_elim (λ a. omega arith) (λ a. let one = a.0 in omega arith) sized.activations; arrays = omega arith }
+
+  -- no more activations than events after the next
+  few-then : length s.world.activations ≤ made + 1
+  few-then = ⊎_elim (λ a. omega arith) (λ a. let one = a.0 in omega arith) sized.activations
 
   -- a journal of no events
   stays : GoesOn g s s []
@@ -132,9 +147,9 @@ module _ (g : Graph) (acc : IsAccepted g) (args : List ℕ) (limits : Limits) (s
   }
 
   -- a firing makes none
-  sized-fired : (i x : ℕ) → Sized limits (fired g s.world i x).world (made + 1)
-  sized-fired i x = let a = sized.activations in let b = sized.arrays in record {
-    activations = subst (λ n. n ≤ limits.frames) (sym (fired-size g s.world i x)) a;
+  sized-fired : (i x : ℕ) → Sized (fired g s.world i x).world (made + 1)
+  sized-fired i x = let b = sized.arrays in record {
+    activations = subst (λ n. n ≤ made + 1) (sym (fired-size g s.world i x)) few-then;
     arrays = subst (λ (rows : Arrays). length rows ≤ made + 1) (sym (arrays-fired g s.world i x)) (omega arith);
   }
 
@@ -160,11 +175,11 @@ module _ (g : Graph) (acc : IsAccepted g) (args : List ℕ) (limits : Limits) (s
     may-arrive = come_may g args s all few ready follows k m at
 
     -- by what comes of it
-    delivered-step : (rest : List Item) (d : Delivery) → (made == limits.budget) ≡ false → SizedAfter limits.frames (made + 1) d
+    delivered-step : (rest : List Item) (d : Delivery) → (made == limits.budget) ≡ false → SizedAfter (made + 1) (made + 1) d
         → DeliveryGoes g s ready rest (made + 1) k d → StepGoes g limits s made (after_delivery g (taken s ready rest (made + 1) k) d)
     delivered-step rest (Went e) p z h = (h, refl, p, record { activations = z.0; arrays = z.1 })
     delivered-step rest (Printed q v) p z h =
-        (h, refl, p, let a = sized.activations in let b = sized.arrays in record { activations = a; arrays = omega arith })
+        (h, refl, p, let b = sized.arrays in record { activations = few-then; arrays = omega arith })
     delivered-step rest (Faulted f) p z h = record {
       state = record s { fault = Some f; arrived = h.0 ∷ s.arrived };
       events = Deliver h.0 ∷ [];
@@ -178,21 +193,28 @@ module _ (g : Graph) (acc : IsAccepted g) (args : List ℕ) (limits : Limits) (s
     }
 
     -- a refusal's end
-    refusal-fits : (q : Message) (n : ℕ) (e : End) → In q (on_their_way s) → In e (refusal limits s.world q) → EndFits g limits s n e
-    refusal-fits (Begin c f x) n e h i = go (length s.world.activations == limits.frames) refl
+    refusal-fits : (rest : List Item) (q : Message) (n : ℕ) (e : End) → In q (on_their_way s) → In e (refusal g limits (graph_of s ready rest n) q)
+        → EndFits g limits s n e
+    refusal-fits rest (Begin c f x) n e h i = go (live_activations g (graph_of s ready rest n) == limits.frames) refl
       where
-        full : (length s.world.activations == limits.frames) ≡ true → In e (Frames_full limits.frames ∷ []) → EndFits g limits s n e
-        full p (inl q) = subst (EndFits g limits s n) q
-            (follows.whole, may-arrive, refl, number-eq (length s.world.activations) limits.frames p, (c, f, x, h))
+        full : (live_activations g (graph_of s ready rest n) == limits.frames) ≡ true → In e (Frames_full limits.frames ∷ []) → EndFits g limits s n e
+        full p (inl q) = subst (EndFits g limits s n) q (
+          follows.whole,
+          may-arrive,
+          refl,
+          (let same = number-eq (live_activations g (graph_of s ready rest n)) limits.frames p in
+              omega (arith, live-most g (graph_of s ready rest n), same)),
+          (c, f, x, h),
+        )
         full p (inr q) = absurd q
 
-        go : (t : Bool) → (length s.world.activations == limits.frames) ≡ t → EndFits g limits s n e
+        go : (t : Bool) → (live_activations g (graph_of s ready rest n) == limits.frames) ≡ t → EndFits g limits s n e
         go true p = full p (rw (refusal, p) at i)
         go false p = absurd (nothing (rw (refusal, p) at i))
           where
             nothing : In e [] → ⊥
             nothing z = z
-    refusal-fits (Make l f x) n e h i = go (nat_lt limits.cells (cells_used s.world.arrays + l)) refl
+    refusal-fits rest (Make l f x) n e h i = go (nat_lt limits.cells (cells_used s.world.arrays + l)) refl
       where
         full : nat_lt limits.cells (cells_used s.world.arrays + l) ≡ true → In e (Cells_full (cells_used s.world.arrays) l ∷ []) → EndFits g limits s n e
         full p (inl q) = subst (EndFits g limits s n) q
@@ -205,45 +227,36 @@ module _ (g : Graph) (acc : IsAccepted g) (args : List ℕ) (limits : Limits) (s
           where
             nothing : In e [] → ⊥
             nothing z = z
-    refusal-fits (Carry f x v) n e h i = absurd i
-    refusal-fits (Ask_cell a j f x t) n e h i = absurd i
-    refusal-fits (Put_cell a j v t) n e h i = absurd i
+    refusal-fits rest (Carry f x v) n e h i = absurd i
+    refusal-fits rest (Ask_cell a j f x t) n e h i = absurd i
+    refusal-fits rest (Put_cell a j v t) n e h i = absurd i
 
-    -- a message that isn't refused makes no frame beyond the limits
-    begin-room : (q : Message) → refusal limits s.world q ≡ [] → (c f x : ℕ) → q ≡ Begin c f x → length s.world.activations + 1 ≤ limits.frames
-    begin-room q e c f x h = go (length s.world.activations == limits.frames) refl (subst (λ z. refusal limits s.world z ≡ []) h e)
-      where
-        go : (t : Bool) → (length s.world.activations == limits.frames) ≡ t → refusal limits s.world (Begin c f x) ≡ []
-            → length s.world.activations + 1 ≤ limits.frames
-        go true p r = absurd (full (rw (refusal, p) at r))
-          where
-            full : Frames_full limits.frames ∷ [] ≡ [] → ⊥
-            full z = cc
-        go false p r = let a = sized.activations in let n = number-differs (length s.world.activations) limits.frames p in omega arith
+    -- a message that wishes for an activation comes after an event
+    begin-room : (c f x : ℕ) → m ≡ Begin c f x → length s.world.activations + 1 ≤ made + 1
+    begin-room c f x h = ⊎_elim (λ a. omega arith)
+        (λ a. absurd (a.1 c f x (subst (λ q. In q (on_their_way s)) h (get-in (on_their_way s) k m at)))) sized.activations
 
     -- so its delivery leaves few
-    after-sized : refusal limits s.world m ≡ [] → (made == limits.budget) ≡ false → SizedAfter limits.frames (made + 1) (delivered s.world m)
-    after-sized e p = let a = sized.activations in let b = sized.arrays in
-        delivered-sized s.world limits.frames (made + 1) m a (omega arith) (begin-room m e)
+    after-sized : SizedAfter (made + 1) (made + 1) (delivered s.world m)
+    after-sized = let b = sized.arrays in delivered-sized s.world (made + 1) (made + 1) m few-then (omega arith) begin-room
 
     -- within the budget, activations and arrays stay few
-    few-after : (d : Delivery) → (made == limits.budget) ≡ false → SizedAfter limits.frames (made + 1) d → FewAfter d
+    few-after : (d : Delivery) → (made == limits.budget) ≡ false → SizedAfter (made + 1) (made + 1) d → FewAfter d
     few-after (Went e) p z =
         let n = number-differs made limits.budget p in
-        let a : length e.world.activations ≤ limits.frames = z.0 in
+        let a : length e.world.activations ≤ made + 1 = z.0 in
         let b : length e.world.arrays ≤ made + 1 = z.1 in
-        let c = ranges.few_frames in let d = ranges.budget in
+        let d = ranges.budget in
         record { activations = omega arith; arrays = omega arith }
     few-after (Printed q v) p z = tt
     few-after (Faulted f) p z = tt
 
     -- unless it is refused
-    unless-step : (rest : List Item) (es : List End) → refusal limits s.world m ≡ es → (made == limits.budget) ≡ false
+    unless-step : (rest : List Item) (es : List End) → refusal g limits (graph_of s ready rest (made + 1)) m ≡ es → (made == limits.budget) ≡ false
         → StepGoes g limits s made (delivered_unless g (taken s ready rest (made + 1) k) m es)
     unless-step rest [] e p =
-        let z = after-sized e p in
-        delivered-step rest (delivered s.world m) p z
-        (delivery-goes g args s all few ready follows k m at (few-after (delivered s.world m) p z) rest (made + 1))
+        delivered-step rest (delivered s.world m) p after-sized
+        (delivery-goes g args s all few ready follows k m at (few-after (delivered s.world m) p after-sized) rest (made + 1))
     unless-step rest (h ∷ more) e p = record {
       state = s;
       events = [];
@@ -252,7 +265,7 @@ module _ (g : Graph) (acc : IsAccepted g) (args : List ℕ) (limits : Limits) (s
       world = refl;
       charged = charge-charged g s made (made + 1) (omega arith) charge;
       few = few;
-      fits = refusal-fits m (made + 1) h (get-in (on_their_way s) k m at) (subst (In h) (sym e) (inl refl));
+      fits = refusal-fits rest m (made + 1) h (get-in (on_their_way s) k m at) (subst (In h) (sym e) (inl refl));
     }
 
     -- the message at the place is delivered
@@ -261,7 +274,7 @@ module _ (g : Graph) (acc : IsAccepted g) (args : List ℕ) (limits : Limits) (s
       where
         go : (t : Bool) → (made == limits.budget) ≡ t → StepGoes g limits s made (chosen g limits (graph_of s ready order made) (Choose_delivery k, rest))
         go true p = rw (chosen, p) (spent ready order follows may-arrive p)
-        go false p = rw (chosen, p, at) (unless-step rest (refusal limits s.world m) refl p)
+        go false p = rw (chosen, p, at) (unless-step rest (refusal g limits (graph_of s ready rest (made + 1)) m) refl p)
 
   -- what was chosen
   chosen-step : (ready : List (ℕ × ℕ)) (order rest : List Item) (c : Choice) → Follows g ready s → ChoiceIs (some_ready ready) (length (on_their_way s)) c
@@ -288,6 +301,21 @@ module _ (g : Graph) (acc : IsAccepted g) (args : List ℕ) (limits : Limits) (s
       chosen-step ready order (choice order (some_ready ready) (length (on_their_way s))).1 (choice order (some_ready ready) (length (on_their_way s))).0
       follows (choice-is order (some_ready ready) (length (on_their_way s)))
 
+-- ---- the beginning
+
+-- the root alone has begun, and no message wishes for an activation
+pub opening-sized : (g : Graph) (args : List ℕ) → SizedBefore (initial g args) 0
+opening-sized g args = record {
+  activations = inr (
+    omega arith,
+    λ c f x i.
+        let p = in-flat_map (argument_message g) (Begin c f x) (zip (below (length args)) args)
+        (subst (λ (ms : List Message). In (Begin c f x) ms) (sym (ap (λ (z : GraphState). z.pending) (opening-same g args []))) i) in
+        argument-no_wish g p.0 c f x p.2,
+  );
+  arrays = omega arith;
+}
+
 -- ---- the run
 
 -- where a step goes on, so does the run
@@ -301,7 +329,7 @@ run-ended step n s d h e = rw (run_from, e) refl
 -- the journal goes on to the end of the run
 pub run-goes : (g : Graph) → IsAccepted g → (args : List ℕ) (limits : Limits) (n : ℕ) (s : State) → AllReached g args s → (made : ℕ) → made + n
     ≡ limits.budget
-    → AreLimits limits → Sized limits s.world made → Charge g s made
+    → AreLimits limits → SizedBefore s made → Charge g s made
     → (ready : List (ℕ × ℕ)) (order : List Item) → Follows g ready s
     → EndGoes g limits s (run_from (graph_step g limits) n (graph_of s ready order made)).0 (run_from (graph_step g limits) n (graph_of s ready order made)).1
 run-goes g acc args limits zero s all made b ranges sized charge ready order follows =
@@ -318,7 +346,7 @@ run-goes g acc args limits (suc n) s all made b ranges sized charge ready order 
     (λ t es l z c r o f. run-goes g acc args limits n t (reached-on g args s t es l all) (made + 1) (omega arith) ranges z c r o f)
   where
     go : (o : Outcome GraphState) → graph_step g limits (graph_of s ready order made) ≡ o → StepGoes g limits s made o
-        → ((t : State) (es : List Event) → GoesOn g s t es → Sized limits t.world (made + 1) → Charge g t (made + 1) → (r : List (ℕ × ℕ))
+        → ((t : State) (es : List Event) → GoesOn g s t es → SizedBefore t (made + 1) → Charge g t (made + 1) → (r : List (ℕ × ℕ))
         (q : List Item) → Follows g r t
         → EndGoes g limits t (run_from (graph_step g limits) n (graph_of t r q (made + 1))).0
         (run_from (graph_step g limits) n (graph_of t r q (made + 1))).1)
@@ -328,8 +356,8 @@ run-goes g acc args limits (suc n) s all made b ranges sized charge ready order 
         subst (λ (r : End × GraphState). EndGoes g limits s r.0 r.1) (sym (run-ended (graph_step g limits) (suc n) (graph_of s ready order made) d how e)) h
     go (Next d) e (h, q, p, z) f =
         let same : d ≡ graph_of h.state h.ready d.order (made + 1) = h.same ∙ ap (λ z. graph_of h.state h.ready d.order z) q in
-        let y : Sized limits h.state.world (made + 1) = subst (λ (w : GraphState). Sized limits w.world (made + 1)) h.same z in
-        let r = f h.state h.events h.goes y (h.charge made charge) h.ready d.order h.follows in
+        let y : Sized h.state.world (made + 1) = subst (λ (w : GraphState). Sized w.world (made + 1)) h.same z in
+        let r = f h.state h.events h.goes (record { activations = inl y.activations; arrays = y.arrays }) (h.charge made charge) h.ready d.order h.follows in
         let path = run-next (graph_step g limits) n (graph_of s ready order made) d e ∙ ap (run_from (graph_step g limits) n) same in
         subst (λ (z : End × GraphState). EndGoes g limits s z.0 z.1) (sym path) (record {
           state = r.state;

@@ -1,6 +1,6 @@
 -- The state after a node got a word, a block was entered, or a message was sent, as the evaluator makes it.
-use Rattle.std.proofs.Common.{◌≡◌, ◌∙◌, ℕ, ◌+◌, ◌≤◌, nat_lt, ◌==◌, Bool, true, false, List, [], ◌∷◌, ◌++◌}
-use Rattle.std.proofs.Common.{length, map, filter, refl, sym, ap, subst, Ok, Err, Result}
+use Rattle.std.proofs.Common.{◌≡◌, ◌∙◌, ℕ, Bool, true, false, List, [], ◌∷◌, ◌++◌}
+use Rattle.std.proofs.Common.{length, map, filter, refl, sym, ap, subst, Err, Result}
 use Rattle.std.proofs.lemmas.List.{append-nil}
 use Rattle.tam_msgs.specs.declared.limits.Limits.{Limits}
 use Rattle.tam_msgs.specs.declared.item.Item.{Item}
@@ -14,12 +14,12 @@ use Rattle.tam_msgs.specs.Messages.{answers}
 use Rattle.tam_istr.specs.CellAnswers.{reader_pair}
 use Rattle.tam_graph.specs.Graphs.{Graph, code_of}
 use Rattle.tam_world.specs.Worlds.{World, its_code, has_word, has_entered, got, entered, changes, sends_only}
-use Rattle.tam_world.specs.Worlds.{Effect, Delivery, Went, Printed, Faulted, Fault, Second_store, Outside_cells, delivered}
+use Rattle.tam_world.specs.Worlds.{Delivery, Went, Printed, Faulted, Fault, Second_store, Outside_cells, delivered}
 use Rattle.tam_world.specs.Takers.{takers_of, firers_in, takers_now, firers_now, starters_of}
 use Rattle.tam_world.specs.Effects.{with_begun, effect_in, delivery_in, fault_of, LeavesWorld, GoesWell}
 use Rattle.tam_world.specs.declared.delivery.Delivery.{Delivery as Answer}
 use Rattle.tam_world.specs.declared.delivery.Delivery.TheVariants.{Went as Has_gone, Begins, Answered, Printed as Is_printed, Faulted as Has_fault}
-use Rattle.tam_eval.specs.GraphRuns.{GraphState, joins, is_enabled, refusal, delivered_unless, end_of, after_delivery, after_effect}
+use Rattle.tam_eval.specs.GraphRuns.{GraphState, joins, is_enabled, refusal, delivered_unless, end_of, after_delivery}
 use Rattle.tam_eval.specs.Machines.{EvalState}
 use Rattle.tam_eval.specs.Effects.{effected}
 use Rattle.tam_eval.specs.Events.{state_with, IsOutcome, IsStopOf, RefusedSo, GoesOn}
@@ -113,8 +113,8 @@ faulted-so g s (Outside_cells a i n) stop order printed is = rw is refl
 
 module _ (g : Graph) (limits : Limits) (s : EvalState) (m : Message) (order : List Item) (printed : List (ℕ × ℕ)) where
   -- what the limits refuse
-  pub outcome-refused : (stop : Stop) → RefusedSo (refusal limits s.world m) (Err stop)
-      → IsOutcome (delivered_unless g (state_with s order printed) m (refusal limits s.world m)) s order printed (Err stop)
+  pub outcome-refused : (stop : Stop) → RefusedSo (refusal g limits (state_with s order printed) m) (Err stop)
+      → IsOutcome (delivered_unless g (state_with s order printed) m (refusal g limits (state_with s order printed) m)) s order printed (Err stop)
   outcome-refused (FramesFull n) is = rw is refl
   outcome-refused (CellsFull used n) is = rw is refl
   outcome-refused (DoubleWrite a b) is = absurd is
@@ -122,16 +122,16 @@ module _ (g : Graph) (limits : Limits) (s : EvalState) (m : Message) (order : Li
   outcome-refused (BudgetSpent n) is = absurd is
   outcome-refused NoMemory is = absurd is
 
-  module _ (room : refusal limits s.world m ≡ []) where
+  module _ (room : refusal g limits (state_with s order printed) m ≡ []) where
     -- what comes of a delivery that the world has made
     pub outcome-settled : (w : World) (d : Answer) (new : EvalState) (result : Result Step Stop) → w.activations ≡ s.world.activations
         → LeavesWorld s.world w d → delivery_in w d ≡ delivered s.world m
         → IsOutcome (after_delivery g (state_with (record s { world = w }) order printed) (delivery_in w d)) new order printed result
-        → IsOutcome (delivered_unless g (state_with s order printed) m (refusal limits s.world m)) new order printed result
+        → IsOutcome (delivered_unless g (state_with s order printed) m (refusal g limits (state_with s order printed) m)) new order printed result
     outcome-settled w d new result same left is settled = rw room (subst (λ (o : Outcome GraphState). IsOutcome o new order printed result)
         (settled-same g (state_with s order printed) w d same left ∙ ap (after_delivery g (state_with s order printed)) is) settled)
 
     -- memory was wanted
     pub outcome-wants : GoesWell (delivered s.world m)
-        → GoesOn (delivered_unless g (state_with s order printed) m (refusal limits s.world m))
+        → GoesOn (delivered_unless g (state_with s order printed) m (refusal g limits (state_with s order printed) m))
     outcome-wants well = rw room (goes-on g (state_with s order printed) (delivered s.world m) well)

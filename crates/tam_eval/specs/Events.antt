@@ -114,6 +114,11 @@ RefusedSo ends (Err (OutOfRange a i n)) = ⊥
 RefusedSo ends (Err (BudgetSpent n)) = ⊥
 RefusedSo ends (Err NoMemory) = ⊥
 
+-- the limits have room for a message in a machine's state, or refuse it
+abbrev pub Refuses : Graph → Limits → Machine → Message → Result Unit Stop → Type 0
+Refuses g limits m message result =
+    (order : List Item) (printed : List (ℕ × ℕ)) → RefusedSo (refusal g limits (state_with (state_of m) order printed) message) result
+
 -- the stop tells the fault
 abbrev pub IsStopOf : Fault → Stop → Type 0
 IsStopOf (Second_store first second) stop = stop ≡ DoubleWrite first second
@@ -129,7 +134,8 @@ Settles g old new delivery result =
 abbrev pub Delivers : Graph → Limits → Machine → Machine → Message → Result Step Stop → Type 0
 Delivers g limits old new m result =
     (order : List Item) (printed : List (ℕ × ℕ))
-    → IsOutcome (delivered_unless g (state_with (state_of old) order printed) m (refusal limits (state_of old).world m)) (state_of new) order printed result
+    → IsOutcome (delivered_unless g (state_with (state_of old) order printed) m (refusal g limits (state_with (state_of old) order printed) m))
+    (state_of new) order printed result
 
 -- the answer is what comes of the firing of what became ready first, counted as an event behind which the order goes on
 abbrev pub FiresFirst : Graph → Machine → Machine → Result Step Stop → Type 0

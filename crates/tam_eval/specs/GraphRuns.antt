@@ -1,11 +1,14 @@
--- A run of a graph: one event is the firing of one vertex or the delivery of one message.
+-- A run of a graph: one event is the firing of one vertex or the delivery of one message. Activations are numbered as they begin, and given back when
+-- they are done; no number is used again.
 use Rattle.std.specs.Prelude.{ℕ, ◌+◌, Bool, true, false, not, ◌==◌, nat_lt, List, [], ◌∷◌, ◌++◌, map, filter, flat_map, Option, Some, None, slice_get, length}
-use Rattle.std.specs.Prelude.{zip}
-use Rattle.tam_word.specs.Lists.{below, all_of, without_place}
+use Rattle.std.specs.Prelude.{zip, ◌&&◌, count_by}
+use Rattle.tam_word.specs.Lists.{below, all_of, any_of, without_place}
 use Rattle.tam_msgs.specs.declared.message.Message.{Message}
 use Rattle.tam_msgs.specs.declared.message.Message.TheVariants.{Frame as Begin, Cells as Make}
 use Rattle.tam_msgs.specs.declared.limits.Limits.{Limits}
 use Rattle.tam_graph.specs.Graphs.{Graph, code_of, kind_at, block_at, operands_of, fires, node_numbers, results_of}
+use Rattle.tam_split.specs.declared.vertex.Vertex.{Vertex}
+use Rattle.tam_split.specs.Blocks.{vertices_of}
 use Rattle.tam_istr.specs.Cells.{cells_used}
 use Rattle.tam_world.specs.Worlds.{World, Effect, Delivery, Went, Printed, Faulted, Fault, Second_store, Outside_cells, its_code, has_word, has_entered, fired}
 use Rattle.tam_world.specs.Worlds.{delivered, opening, argument_message}
@@ -67,11 +70,43 @@ after_delivery g s (Went e) = Next (after_effect g s e)
 after_delivery g s (Printed k v) = Next (record s { printed = s.printed ++ (k, v) ∷ [] })
 after_delivery g s (Faulted f) = Ended (end_of f) s
 
--- a frame or cells beyond the limits are refused
-abbrev pub refusal : Limits → World → Message → List End
-refusal limits w (Begin c f x) = elim (length w.activations == limits.frames) [ true ↦ Frames_full limits.frames ∷ [] | false ↦ [] ]
-refusal limits w (Make n f x) = elim (nat_lt limits.cells (cells_used w.arrays + n)) [ true ↦ Cells_full (cells_used w.arrays) n ∷ [] | false ↦ [] ]
-refusal limits w _ = []
+-- ---- live activations
+
+-- node x of activation i is ready
+abbrev pub stands_ready : GraphState → ℕ → ℕ → Bool
+stands_ready s i x = any_of (λ r. (r.0 == i) && (r.1 == x)) s.ready
+
+-- it has fired: it might, and isn't ready any more
+abbrev pub has_fired : Graph → GraphState → ℕ → ℕ → Bool
+has_fired g s i x = elim (is_enabled g s.world i x) [ true ↦ not (stands_ready s i x) | false ↦ false ]
+
+-- an inlet is done when it has its value, and any other vertex when it has fired
+abbrev pub is_vertex_done : Graph → GraphState → ℕ → Vertex → Bool
+is_vertex_done g s i v = elim v.inlet [ true ↦ has_word s.world i v.node | false ↦ has_fired g s i v.node ]
+
+-- the vertices of node x are done, or its block wasn't entered
+abbrev pub is_node_done : Graph → GraphState → ℕ → ℕ → Bool
+is_node_done g s i x = elim (has_entered s.world i (block_at (its_code g s.world i) x)) [
+  | true ↦ all_of (is_vertex_done g s i) (vertices_of x (kind_at (its_code g s.world i) x))
+  | false ↦ true
+]
+
+-- activation i is given back: each vertex of each block that it has entered is done
+abbrev pub is_given_back : Graph → GraphState → ℕ → Bool
+is_given_back g s i = all_of (is_node_done g s i) (node_numbers (its_code g s.world i))
+
+-- how many activations are live, which is as long as they aren't given back
+abbrev pub live_activations : Graph → GraphState → ℕ
+live_activations g s = count_by (λ i. not (is_given_back g s i)) (below (length s.world.activations))
+
+-- ---- deliveries
+
+-- an activation is refused where as many are live as may be, and cells that are more than may be
+abbrev pub refusal : Graph → Limits → GraphState → Message → List End
+refusal g limits s (Begin c f x) = elim (live_activations g s == limits.frames) [ true ↦ Frames_full limits.frames ∷ [] | false ↦ [] ]
+refusal g limits s (Make n f x) =
+    elim (nat_lt limits.cells (cells_used s.world.arrays + n)) [ true ↦ Cells_full (cells_used s.world.arrays) n ∷ [] | false ↦ [] ]
+refusal g limits s _ = []
 
 -- the delivery, unless the limits refuse it
 abbrev pub delivered_unless : Graph → GraphState → Message → List End → Outcome GraphState
@@ -81,7 +116,7 @@ delivered_unless g s m (e ∷ more) = Ended e s
 -- the message at place k is delivered
 abbrev pub delivered_at : Graph → Limits → GraphState → ℕ → Option Message → Outcome GraphState
 delivered_at g limits s k None = Ended Quiet s
-delivered_at g limits s k (Some m) = delivered_unless g (record s { pending = without_place k s.pending }) m (refusal limits s.world m)
+delivered_at g limits s k (Some m) = delivered_unless g (record s { pending = without_place k s.pending }) m (refusal g limits s m)
 
 -- an event is made, and its item of the order is used
 abbrev pub counted : GraphState → List Item → GraphState

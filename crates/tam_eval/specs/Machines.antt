@@ -1,10 +1,11 @@
 -- What contracts see of what the evaluator keeps.
-use Rattle.std.specs.Prelude.{ℕ, List, ◌≡◌, ◌+◌, ◌≤◌, length}
+use Rattle.std.specs.Prelude.{ℕ, List, ◌≡◌, ◌+◌, ◌≤◌, ◌⊎◌, Some, slice_get, length}
 use Rattle.tam_istr.specs.Cells.{Arrays, cells_used}
 use Rattle.tam_msgs.specs.declared.limits.Limits.{Limits}
 use Rattle.tam_msgs.specs.declared.message.Message.{Message}
 use Rattle.tam_world.specs.Worlds.{World}
 use Rattle.tam_world.specs.Kept.{pairs_of}
+use Rattle.tam_world.specs.Effects.{activations_wished}
 use Rattle.tam_eval.specs.declared.machine.Machine.{Machine}
 
 -- the state of a run, without the order list and what was printed
@@ -28,16 +29,21 @@ pub record Grows (old new : Machine) (activations : ℕ) : Type 0 where
   pub arrays_kept : new.world.arrays ≡ old.world.arrays
   pub events_kept : new.events ≡ old.events
 
--- the run is within its limits
+-- no event was made: no activation has begun but the root, and no message wishes for one
+pub record HasJustBegun (m : Machine) : Type 0 where
+  pub root : length m.world.activations ≤ 1
+  pub no_wish : (k : ℕ) (message : Message) → slice_get m.pending.messages k ≡ Some message → activations_wished message ≡ 0
+
+-- the run is within its limits: no more activations have begun and arrays were made than there were events
 pub record IsWithinLimits (m : Machine) (limits : Limits) : Type 0 where
-  pub frames : length m.world.activations ≤ limits.frames
+  pub activations : (length m.world.activations ≤ m.events) ⊎ HasJustBegun m
   pub arrays : length m.world.arrays ≤ m.events
   pub events : m.events ≤ limits.budget
   pub cells : cells_used m.world.arrays ≤ limits.cells
 
 -- after an event the run is within its limits, where one array more at most was made
 pub record Fits (old new : Machine) (limits : Limits) : Type 0 where
-  pub frames : length new.world.activations ≤ limits.frames
+  pub activations : length new.world.activations ≤ new.events
   pub few_arrays : length new.world.arrays ≤ length old.world.arrays + 1
   pub cells : cells_used new.world.arrays ≤ limits.cells
   pub events_kept : new.events ≡ old.events

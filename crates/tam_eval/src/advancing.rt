@@ -1,9 +1,10 @@
 // One event.
-ghost use Rattle.std.specs.Prelude.{ℕ, List, ◌≡◌, ◌+◌, ◌-◌, ◌<◌, ◌≤◌, ◌^◌, length, slice_get};
+ghost use Rattle.std.specs.Prelude.{ℕ, List, ◌≡◌, ◌+◌, ◌-◌, ◌<◌, ◌≤◌, ◌^◌, length, slice_get, OnOk};
 ghost use Rattle.tam_msgs.specs.Messages.{AreLimits};
 ghost use Rattle.tam_msgs.specs.declared.item.Item.{Item};
 ghost use Rattle.tam_eval.specs.GraphRuns.{fired_first, delivered_at, counted, graph_step};
 ghost use Rattle.tam_eval.specs.Machines.{state_of, CountsEvent, IsWithinLimits};
+ghost use Rattle.tam_eval.specs.Waiting.{IsCounted};
 ghost use Rattle.tam_eval.specs.Events.{state_with, IsOutcome, IsRun, IsDelivery, IsAnswerOf, next_choice};
 ghost use Rattle.tam_eval.specs.Events.{LeavesAtQuiet, Delivers, FiresFirst, DeliversAt, Advances};
 
@@ -17,7 +18,9 @@ use tam_world::{Program, firing};
 fn run_first(program: &Program<'_>, machine: &mut Machine) -> Result<Step, Stop>
     requires ready { 0 < length machine.old.ready.items }
     requires events { machine.old.events < 2 ^ 32 - 1 }
+    requires counted { IsCounted program.now machine.old }
     ensures outcome { FiresFirst program.now machine.old machine.new result }
+    ensures counted { OnOk result (IsCounted program.now machine.new) }
     ensures sizes { CountsEvent machine.old machine.new }
     ensures goes { IsRun result }
 {
@@ -27,6 +30,7 @@ fn run_first(program: &Program<'_>, machine: &mut Machine) -> Result<Step, Stop>
     machine.events += 1;
     let effect = firing(program, &machine.world, at);
     apply(program, machine, effect)?;
+    machine.left.less(at.activation);
     Ok(Step::Ran)
 }
 
@@ -41,7 +45,9 @@ fn deliver_at(
     requires within { IsWithinLimits machine.old limits.now }
     requires place { place < length machine.old.pending.messages }
     requires events { machine.old.events < limits.now.budget }
+    requires counted { IsCounted program.now machine.old }
     ensures outcome { DeliversAt program.now limits.now machine.old machine.new place result }
+    ensures counted { OnOk result (IsCounted program.now machine.new) }
     ensures within { IsWithinLimits machine.new limits.now }
     ensures goes { IsDelivery result }
 {
@@ -59,9 +65,11 @@ pub(crate) fn advance(
 ) -> Result<Step, Stop>
     requires limits { AreLimits limits.now }
     requires within { IsWithinLimits machine.old limits.now }
+    requires counted { IsCounted program.now machine.old }
     ensures outcome { Advances program.now limits.now machine.old machine.new order.old order.new result }
     ensures chosen { IsAnswerOf (next_choice (state_of machine.old) order.old) result }
     ensures quiet { LeavesAtQuiet (state_of machine.old) (state_of machine.new) order.old order.new result }
+    ensures counted { OnOk result (IsCounted program.now machine.new) }
     ensures within { IsWithinLimits machine.new limits.now }
 {
     let ready = !machine.ready.is_empty();

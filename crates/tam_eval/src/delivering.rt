@@ -1,25 +1,32 @@
 // The delivery of a message.
-ghost use Rattle.std.specs.Prelude.{◌<◌, ◌≤◌, ◌^◌, length};
+ghost use Rattle.std.specs.Prelude.{◌<◌, ◌≤◌, ◌+◌, ◌^◌, length, OnOk};
 ghost use Rattle.tam_istr.specs.Cells.{cells_used};
 ghost use Rattle.tam_msgs.specs.Messages.{AreLimits};
-ghost use Rattle.tam_world.specs.Effects.{begun_by, fault_of};
-ghost use Rattle.tam_eval.specs.GraphRuns.{refusal};
-ghost use Rattle.tam_eval.specs.Machines.{Grows, Fits, IsWithinLimits};
-ghost use Rattle.tam_eval.specs.Events.{IsDelivery, IsStopOf, Delivers, Settles, RefusedSo};
+ghost use Rattle.tam_world.specs.Effects.{activations_wished, begun_by, fault_of};
+ghost use Rattle.tam_eval.specs.Machines.{Grows, Fits};
+ghost use Rattle.tam_eval.specs.Waiting.{IsCounted, IsCovered, KeepsCounts};
+ghost use Rattle.tam_eval.specs.Events.{IsDelivery, IsStopOf, Delivers, Settles, Refuses};
 
 use crate::machine::Machine;
 use crate::steps::{apply, begin, send_answers};
 use tam_msgs::{Limits, Message, Step, Stop};
-use tam_world::{Delivery, Fault, Program, World};
+use tam_world::{Delivery, Fault, Program};
 
 // Whether the limits leave room for what a message asks for.
-fn has_room(world: &World, limits: &Limits, message: Message) -> Result<(), Stop>
+fn has_room(
+    program: &Program<'_>,
+    machine: &Machine,
+    limits: &Limits,
+    message: Message,
+) -> Result<(), Stop>
     requires limits { AreLimits limits.now }
-    requires cells { cells_used world.now.arrays ≤ limits.now.cells }
-    ensures value { RefusedSo (refusal limits.now world.now message) result }
+    requires cells { cells_used machine.now.world.arrays ≤ limits.now.cells }
+    requires counted { IsCounted program.now machine.now }
+    ensures value { Refuses program.now limits.now machine.now message result }
 {
+    let world = &machine.world;
     match message {
-        Message::Frame { .. } if world.activations() == limits.frames as usize => {
+        Message::Frame { .. } if machine.left.live() == limits.frames as usize => {
             Err(Stop::FramesFull {
                 count: limits.frames,
             })
@@ -48,7 +55,9 @@ fn stop_of(fault: Fault) -> Stop
 // What comes of a delivery is done.
 fn settle(program: &Program<'_>, machine: &mut Machine, delivery: Delivery) -> Result<Step, Stop>
     requires few { length machine.old.world.activations < 2 ^ 32 }
+    requires covered { IsCovered program.now machine.old }
     ensures outcome { Settles program.now machine.old machine.new delivery result }
+    ensures counts { OnOk result (KeepsCounts program.now machine.old machine.new) }
     ensures sizes { Grows machine.old machine.new (begun_by delivery) }
     ensures goes { IsDelivery result }
 {
@@ -78,13 +87,17 @@ pub(crate) fn deliver(
     message: Message,
 ) -> Result<Step, Stop>
     requires limits { AreLimits limits.now }
-    requires within { IsWithinLimits machine.old limits.now }
-    requires counted { length machine.old.world.arrays < machine.old.events }
+    requires made { length machine.old.world.arrays < machine.old.events }
+    requires begun { length machine.old.world.activations + activations_wished message ≤ machine.old.events }
+    requires events { machine.old.events ≤ limits.now.budget }
+    requires cells { cells_used machine.old.world.arrays ≤ limits.now.cells }
+    requires counted { IsCounted program.now machine.old }
     ensures outcome { Delivers program.now limits.now machine.old machine.new message result }
+    ensures counted { OnOk result (IsCounted program.now machine.new) }
     ensures within { Fits machine.old machine.new limits.now }
     ensures goes { IsDelivery result }
 {
-    has_room(&machine.world, limits, message)?;
+    has_room(program, machine, limits, message)?;
     let delivery = machine.world.deliver(message)?;
     settle(program, machine, delivery)
 }

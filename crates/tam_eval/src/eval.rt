@@ -3,10 +3,12 @@ ghost use Rattle.std.specs.Prelude.{◌≡◌, ◌≤◌, None, length, IfOk};
 ghost use Rattle.tam_istr.specs.Cells.{cells_used};
 ghost use Rattle.tam_msgs.specs.Messages.{AreLimits};
 ghost use Rattle.tam_graph.specs.Graphs.{AreArguments};
-ghost use Rattle.tam_eval.specs.Machines.{state_of};
+ghost use Rattle.tam_eval.specs.Machines.{state_of, HasJustBegun};
+ghost use Rattle.tam_eval.specs.Waiting.{IsCounted};
 ghost use Rattle.tam_eval.specs.Events.{opening_state, IsEvent};
 
 use crate::advancing::advance;
+use crate::left::Left;
 use crate::machine::Machine;
 use crate::steps::{ready_all, send_all};
 use std::alloc::Global;
@@ -34,10 +36,12 @@ impl<'g> Model for Eval<'g> {
 
     ghost use Rattle.tam_msgs.specs.Messages.{AreLimits};
     ghost use Rattle.tam_eval.specs.Machines.{IsWithinLimits};
+    ghost use Rattle.tam_eval.specs.Waiting.{IsCounted};
+    ghost use Rattle.std.specs.Prelude.{None, ◌≡◌};
 
     ghost view = { λ e. record { graph = e.program; limits = e.limits; state = state_of e.machine; stopped = e.stopped } };
 
-    ghost invariant = { λ e. AreLimits e.limits × IsWithinLimits e.machine e.limits };
+    ghost invariant = { λ e. AreLimits e.limits × IsWithinLimits e.machine e.limits × (e.stopped ≡ None → IsCounted e.program e.machine) };
 }
 
 impl<'g> Eval<'g> {
@@ -109,6 +113,8 @@ fn opening(
     requires main { main ≡ program.now.main }
     requires args { length args.now ≤ 64 }
     ensures value { IfOk result (λ machine. state_of machine ≡ opening_state program.now args.now) }
+    ensures counted { IfOk result (IsCounted program.now) }
+    ensures begun { IfOk result (HasJustBegun) }
 {
     let world = World::opening(alloc, main)?;
     let mut ready = VecDeque::new(alloc);
@@ -118,10 +124,13 @@ fn opening(
         &mut pending,
         &argument_messages(alloc, program, main, args)?,
     )?;
+    let mut left = Left::none(alloc);
+    left.begin(program.firers(main, 0).len() + program.block_inlets(main, 0).len())?;
     Ok(Machine {
         world,
         ready,
         pending,
         events: 0,
+        left,
     })
 }

@@ -6,6 +6,7 @@ ghost use Rattle.tam_world.specs.Worlds.{has_word};
 ghost use Rattle.tam_world.specs.Kept.{pairs_of};
 ghost use Rattle.tam_eval.specs.GraphRuns.{is_enabled};
 
+use crate::left::Left;
 use std::alloc::AllocError;
 use std::collections::VecDeque;
 use tam_graph::{Graph, Kind};
@@ -21,6 +22,8 @@ pub(crate) struct Machine {
     pub(crate) ready: VecDeque<NodeAt>,
     pub(crate) pending: Pending,
     pub(crate) events: u32,
+    /// How many vertices each activation has left, those that are ready among them.
+    pub(crate) left: Left,
 }
 
 // Whether each operand of a node has a word.

@@ -1,20 +1,23 @@
 // What an event changes in a run.
-ghost use Rattle.std.specs.Prelude.{◌≡◌, ◌+◌, ◌<◌, ◌≤◌, ◌^◌, ◌++◌, ◌∷◌, [], length, map, OnOk};
+ghost use Rattle.std.specs.Prelude.{◌≡◌, ◌+◌, ◌<◌, ◌≤◌, ◌^◌, ◌++◌, ◌∷◌, [], not, count_by, length, map, OnOk};
 ghost use Rattle.tam_istr.specs.CellAnswers.{reader_pair};
 ghost use Rattle.tam_msgs.specs.Messages.{answers};
-ghost use Rattle.tam_world.specs.Worlds.{got, entered, changes, sends_only};
+ghost use Rattle.tam_world.specs.Worlds.{got, entered, has_word, changes, sends_only};
 ghost use Rattle.tam_world.specs.Kept.{pairs_of};
 ghost use Rattle.tam_world.specs.Effects.{effect_in, with_begun};
 ghost use Rattle.tam_eval.specs.Machines.{sizes_of, Grows};
 ghost use Rattle.tam_eval.specs.Effects.{HasEffect};
+ghost use Rattle.tam_eval.specs.Waiting.{IsCovered, KeepsCounts, is_awaited};
 
 use crate::machine::{Machine, ready_among};
 use std::alloc::AllocError;
 use std::collections::VecDeque;
 use tam_edge::NoMemory;
+use tam_graph::Graph;
 use tam_istr::Reader;
 use tam_msgs::{Message, Pending};
-use tam_world::{Effect, NodeAt, Program};
+use tam_world::nodes::{is_inlet, node_at};
+use tam_world::{Effect, NodeAt, Program, World};
 
 // A node gets a word, and those of its takers become ready that may fire now.
 fn give_word(
@@ -23,7 +26,9 @@ fn give_word(
     at: NodeAt,
     word: u32,
 ) -> Result<(), NoMemory>
+    requires covered { IsCovered program.now machine.old }
     ensures value { HasEffect program.now machine.old machine.new (λ w. changes (got w at.activation at.node word)) result }
+    ensures counts { OnOk result (KeepsCounts program.now machine.old machine.new) }
     ensures sizes { sizes_of machine.new ≡ sizes_of machine.old }
 {
     let had = machine.world.has_word(at.activation, at.node);
@@ -40,7 +45,21 @@ fn give_word(
         at.activation,
         takers,
     )?;
+    if is_awaited(program.graph(), &machine.world, at) {
+        machine.left.less(at.activation);
+    }
     Ok(())
+}
+
+// Whether a node's value comes from outside its block, and the block was entered.
+fn is_awaited(graph: &Graph, world: &World, at: NodeAt) -> bool
+    ensures value { result ≡ is_awaited graph.now world.now at.activation at.node }
+{
+    let code = world.code_at(at.activation);
+    match node_at(graph, code, at.node) {
+        Some(node) => is_inlet(node.kind) && world.has_entered(at.activation, node.block),
+        None => false,
+    }
 }
 
 // A block is entered, and those of its nodes become ready that may fire now.
@@ -50,7 +69,9 @@ fn enter_block(
     i: u32,
     block: u32,
 ) -> Result<(), NoMemory>
+    requires covered { IsCovered program.now machine.old }
     ensures value { HasEffect program.now machine.old machine.new (λ w. changes (entered w i block)) result }
+    ensures counts { OnOk result (KeepsCounts program.now machine.old machine.new) }
     ensures sizes { sizes_of machine.new ≡ sizes_of machine.old }
 {
     let had = machine.world.has_entered(i, block);
@@ -67,7 +88,23 @@ fn enter_block(
         i,
         firers,
     )?;
+    let empty = empty_among(&machine.world, i, program.block_inlets(code, block));
+    machine.left.more(i, firers.len() + empty);
     Ok(())
+}
+
+// How many of the nodes have no word.
+fn empty_among(world: &World, i: u32, nodes: &[u32]) -> usize
+    ensures value { result ≡ count_by (λ x. not (has_word world.now i x)) nodes.now }
+    ensures few { result ≤ length nodes.now }
+{
+    let mut count = 0;
+    for node in nodes {
+        if !world.has_word(i, *node) {
+            count += 1;
+        }
+    }
+    count
 }
 
 // A message is sent.
@@ -134,13 +171,17 @@ pub(crate) fn begin(
     call: NodeAt,
 ) -> Result<(), NoMemory>
     requires few { length machine.old.world.activations < 2 ^ 32 }
+    requires covered { IsCovered program.now machine.old }
     ensures value { HasEffect program.now machine.old machine.new (λ w. sends_only (with_begun w code call.activation call.node) (Message.Word call.activation
         call.node (length w.activations) ∷ [])) result }
+    ensures counts { OnOk result (KeepsCounts program.now machine.old machine.new) }
     ensures grows { Grows machine.old machine.new 1 }
 {
     let word = machine.world.activations() as u32;
     machine.world.begin(code, call)?;
     ready_all(&mut machine.ready, word, program.starters(code))?;
+    let count = program.firers(code, 0).len() + program.block_inlets(code, 0).len();
+    machine.left.begin(count)?;
     send(
         &mut machine.pending,
         Message::Word {
@@ -157,7 +198,9 @@ pub(crate) fn apply(
     machine: &mut Machine,
     effect: Effect,
 ) -> Result<(), NoMemory>
+    requires covered { IsCovered program.now machine.old }
     ensures value { HasEffect program.now machine.old machine.new (λ w. effect_in w effect) result }
+    ensures counts { OnOk result (KeepsCounts program.now machine.old machine.new) }
     ensures sizes { sizes_of machine.new ≡ sizes_of machine.old }
 {
     match effect {

@@ -9,8 +9,9 @@ use Rattle.tam_word.proofs.Tests.{test-below}
 use Rattle.tam_word.proofs.Each.{get-left, get-last, get-past, last-or_before}
 use Rattle.tam_world.specs.declared.table.Table.{Table}
 use Rattle.tam_world.specs.Tables.{IsTableOf, AreTables}
-use Rattle.tam_graph.specs.Graphs.{Graph, Code, code_of, or_code, no_code, kind_at, block_at, or_kind, or_block, operands_of, fires, node_numbers}
-use Rattle.tam_world.specs.Takers.{firers_in}
+use Rattle.tam_graph.specs.Graphs.{Graph, Code, code_of, or_code, no_code, kind_at, block_at, or_kind, or_block, operands_of, fires, is_inlet}
+use Rattle.tam_graph.specs.Graphs.{node_numbers}
+use Rattle.tam_world.specs.Takers.{firers_in, inlets_in}
 use Rattle.tam_world.specs.Sought.{is_keyed}
 use Rattle.tam_world.proofs.TableLemmas.{filter-last}
 
@@ -50,6 +51,23 @@ pub firers-all : (c : Code) (takers firers inlets : ℕ → List ℕ) → AreLis
 firers-all c takers firers inlets lists b =
     lists.firers_below b ∙ sym (filter-twice (λ n. block_at c n == b) (λ n. fires (kind_at c n)) (node_numbers c))
 
+-- the lists are those of the inlets below x, by block
+abbrev pub AreInletsBelow : Code → (ℕ → List ℕ) → ℕ → Type 0
+AreInletsBelow c lists x = (b : ℕ) → lists b ≡ filter (λ n. (block_at c n == b) && is_inlet (kind_at c n)) (below x)
+
+-- a node more
+pub inlets-next : (c : Code) (lists more : ℕ → List ℕ) (x : ℕ) (node : Node) → AreInletsBelow c lists x → slice_get c.nodes x ≡ Some node
+    → ((b : ℕ) → more b ≡ lists b ++ where_so ((node.block == b) && is_inlet node.kind) x) → AreInletsBelow c more (suc x)
+inlets-next c lists more x node before read longer = λ b.
+    let test : ℕ → Bool = λ n. (block_at c n == b) && is_inlet (kind_at c n) in
+    longer b ∙ ap (λ l. l ++ where_so ((node.block == b) && is_inlet node.kind) x) (before b)
+    ∙ ap (λ (o : Option Node). filter test (below x) ++ where_so ((or_block o == b) && is_inlet (or_kind o)) x) (sym read)
+    ∙ sym (filter-last test (below x) x)
+
+-- all nodes
+pub inlets-all : (c : Code) (lists : ℕ → List ℕ) → AreInletsBelow c lists (length c.nodes) → (b : ℕ) → lists b ≡ inlets_in c b
+inlets-all c lists below_all b = below_all b ∙ sym (filter-twice (λ n. block_at c n == b) (λ n. is_inlet (kind_at c n)) (node_numbers c))
+
 -- the codes below k have their tables
 pub record AreTablesBelow (g : Graph) (tables : List Table) (k : ℕ) : Type 0 where
   pub count : length tables ≡ k
@@ -84,4 +102,11 @@ tables-all g tables below_all k = go (nat_lt k (length g.codes)) refl
         let past : length g.codes ≤ k = grind (arith, tests) in
         let none : slice_get tables k ≡ None = get-past tables k (omega (arith, past, below_all.count)) in
         let no_such : code_of g k ≡ no_code = ap or_code (get-past g.codes k past) in
-        rw (none, no_such) (record { takers = λ y. refl; firers = λ b. refl; inlets = λ y. refl; starters = refl })
+        rw (none, no_such) (record {
+          takers = λ y. refl;
+          firers = λ b. refl;
+          inlets = λ y. refl;
+          block_inlets = λ b. refl;
+          starters = refl;
+          few = omega arith;
+        })

@@ -1,9 +1,9 @@
 -- What the evaluator's tables say of a graph's codes.
-use Rattle.std.specs.Prelude.{ℕ, ◌≡◌, List, [], Option, Some, None, slice_get}
+use Rattle.std.specs.Prelude.{ℕ, ◌≡◌, ◌≤◌, List, [], Option, Some, None, slice_get, length}
 use Rattle.std.specs.declared.vec.Vec.{Vec}
 use Rattle.std.specs.declared.alloc.Global.{Global}
 use Rattle.tam_graph.specs.Graphs.{Graph, Code, code_of}
-use Rattle.tam_world.specs.Takers.{takers_of, firers_in, starters_of}
+use Rattle.tam_world.specs.Takers.{takers_of, firers_in, inlets_in, starters_of}
 use Rattle.tam_world.specs.Sought.{inlets_of}
 use Rattle.tam_world.specs.declared.table.Table.{Table}
 
@@ -26,6 +26,11 @@ abbrev pub firers_kept : Option Table → ℕ → List ℕ
 firers_kept None b = []
 firers_kept (Some t) b = listed t.firers.items b
 
+-- the inlets of a block
+abbrev pub block_inlets_kept : Option Table → ℕ → List ℕ
+block_inlets_kept None b = []
+block_inlets_kept (Some t) b = listed t.block_inlets.items b
+
 -- the nodes under a number, of those that are looked for
 abbrev pub inlets_kept : Option Table → ℕ → List ℕ
 inlets_kept None y = []
@@ -36,12 +41,14 @@ abbrev pub starters_kept : Option Table → List ℕ
 starters_kept None = []
 starters_kept (Some t) = t.starters.items
 
--- the table is that of a code
+-- the table is that of a code, which is as short as a text's
 pub record IsTableOf (c : Code) (t : Option Table) : Type 0 where
   pub takers : (y : ℕ) → takers_kept t y ≡ takers_of c y
   pub firers : (b : ℕ) → firers_kept t b ≡ firers_in c b
   pub inlets : (y : ℕ) → inlets_kept t y ≡ inlets_of c y
+  pub block_inlets : (b : ℕ) → block_inlets_kept t b ≡ inlets_in c b
   pub starters : starters_kept t ≡ starters_of c
+  pub few : length c.nodes ≤ 1024
 
 -- each code of the graph has its table
 abbrev pub AreTables : Graph → List Table → Type 0

@@ -1,7 +1,7 @@
--- The nodes that an event may make ready: those that take a node's word, and those of a block.
+-- The nodes that an event may make ready: those that take a node's word, and those of a block; and the inlets of a block.
 use Rattle.std.specs.Prelude.{ℕ, Bool, true, false, ◌&&◌, List, [], ◌∷◌, filter}
 use Rattle.tam_word.specs.Lists.{has}
-use Rattle.tam_graph.specs.Graphs.{Code, Graph, kind_at, operands_of, fires, node_numbers, nodes_in}
+use Rattle.tam_graph.specs.Graphs.{Code, Graph, kind_at, operands_of, fires, is_inlet, node_numbers, nodes_in}
 use Rattle.tam_world.specs.Worlds.{World, its_code, has_word, has_entered}
 
 -- the nodes that fire and have node y among their operands, rising, each once
@@ -11,6 +11,10 @@ takers_of c y = filter (λ x. fires (kind_at c x) && has (operands_of c (kind_at
 -- the nodes of block b that fire, rising
 abbrev pub firers_in : Code → ℕ → List ℕ
 firers_in c b = filter (λ x. fires (kind_at c x)) (nodes_in c b)
+
+-- the nodes of block b whose values come from outside it, rising
+abbrev pub inlets_in : Code → ℕ → List ℕ
+inlets_in c b = filter (λ x. is_inlet (kind_at c x)) (nodes_in c b)
 
 -- the list is empty
 abbrev pub is_none : List ℕ → Bool

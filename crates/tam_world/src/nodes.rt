@@ -1,6 +1,6 @@
 // Nodes by their numbers.
 ghost use Rattle.std.specs.Prelude.{◌≡◌, ◌<◌, ◌≤◌, length, slice_get, OnSome, option_to_list};
-ghost use Rattle.tam_graph.specs.Graphs.{code_of, kind_at, block_at, test_of, callee_of, chosen_branch, fires, owner_of};
+ghost use Rattle.tam_graph.specs.Graphs.{code_of, kind_at, block_at, test_of, callee_of, chosen_branch, fires, is_inlet, owner_of};
 
 use tam_graph::{Graph, Kind, Node};
 
@@ -88,6 +88,19 @@ pub fn fires(kind: Kind) -> bool
         Kind::Call { .. } | Kind::Arg { .. } | Kind::Give { .. } | Kind::Alloc { .. } => true,
         Kind::Fetch { .. } | Kind::Store { .. } => true,
         Kind::Cond { .. } | Kind::Switch { .. } | Kind::Leave { .. } => true,
+    }
+}
+
+/// Whether the value of such a node comes from outside its block.
+pub fn is_inlet(kind: Kind) -> bool
+    ensures value { result ≡ is_inlet kind }
+{
+    match kind {
+        Kind::Param { .. } | Kind::Ret { .. } | Kind::Merge { .. } | Kind::Enter { .. } => true,
+        Kind::Call { .. } | Kind::Alloc { .. } | Kind::Fetch { .. } => true,
+        Kind::Const { .. } | Kind::Op { .. } | Kind::Seq { .. } => false,
+        Kind::Arg { .. } | Kind::Give { .. } | Kind::Store { .. } => false,
+        Kind::Cond { .. } | Kind::Switch { .. } | Kind::Leave { .. } => false,
     }
 }
 

@@ -1,7 +1,7 @@
 // A graph with its tables.
-ghost use Rattle.std.specs.Prelude.{◌≡◌, IfOk};
+ghost use Rattle.std.specs.Prelude.{◌≡◌, ◌≤◌, length, IfOk};
 ghost use Rattle.tam_graph.specs.Graphs.{code_of};
-ghost use Rattle.tam_world.specs.Takers.{takers_of, firers_in, starters_of};
+ghost use Rattle.tam_world.specs.Takers.{takers_of, firers_in, inlets_in, starters_of};
 ghost use Rattle.tam_world.specs.Sought.{inlets_of};
 ghost use Rattle.tam_world.specs.Tables.{AreTables, takers_kept};
 
@@ -60,6 +60,17 @@ impl<'g> Program<'g> {
     {
         match self.tables.get(code as usize) {
             Some(table) => list_at(&table.firers, block),
+            None => &[],
+        }
+    }
+
+    /// The nodes of a block whose values come from outside it.
+    pub fn block_inlets(&self, code: u32, block: u32) -> &[u32]
+        ensures value { result.now ≡ inlets_in (code_of self.now code) block }
+        ensures few { length (code_of self.now code).nodes ≤ 1024 }
+    {
+        match self.tables.get(code as usize) {
+            Some(table) => list_at(&table.block_inlets, block),
             None => &[],
         }
     }

@@ -1,12 +1,12 @@
 // Which vertices an event may make ready, by code.
 ghost use Rattle.std.specs.Prelude.{ℕ, ◌≡◌, ◌==◌, ◌&&◌, ◌≤◌, ◌++◌, [], ◌∷◌, Some, filter, length, IfOk, OnOk};
 ghost use Rattle.tam_word.specs.Lists.{has, where_so};
-ghost use Rattle.tam_graph.specs.Graphs.{code_of, kind_at, operands_of, fires};
+ghost use Rattle.tam_graph.specs.Graphs.{code_of, kind_at, operands_of, fires, is_inlet};
 ghost use Rattle.tam_world.specs.Takers.{is_none};
 ghost use Rattle.tam_world.specs.Sought.{is_keyed};
 ghost use Rattle.tam_world.specs.Tables.{listed, IsTableOf};
 
-use crate::nodes::{fires, kind_at, nodes_of, test_of};
+use crate::nodes::{fires, is_inlet, kind_at, nodes_of, test_of};
 use std::alloc::{AllocError, Global};
 use tam_graph::{Graph, Kind, Node};
 
@@ -17,6 +17,8 @@ pub(crate) struct Table {
     pub(crate) takers: Vec<Vec<u32>>,
     /// For each block its nodes that fire.
     pub(crate) firers: Vec<Vec<u32>>,
+    /// For each block its inlets, calls, allocs and fetches among them.
+    pub(crate) block_inlets: Vec<Vec<u32>>,
     /// For each number those inlets that are kept under it: a param's place, a ret's call, a merge's cond, an `in`'s block.
     pub(crate) inlets: Vec<Vec<u32>>,
     /// Those that may fire as soon as an activation begins.
@@ -34,6 +36,7 @@ impl Table {
         let mut takers = Vec::new(alloc);
         let mut firers = Vec::new(alloc);
         let mut inlets = Vec::new(alloc);
+        let mut block_inlets = Vec::new(alloc);
         for (x, node) in nodes.iter().enumerate() {
             add_node(
                 alloc,
@@ -45,11 +48,13 @@ impl Table {
                 x as u32,
             )?;
             add_inlet(alloc, &mut inlets, node.block, node.kind, x as u32)?;
+            add_block_inlet(alloc, &mut block_inlets, node.block, node.kind, x as u32)?;
         }
         let starters = starters_among(alloc, graph, code, list_at(&firers, 0))?;
         Ok(Table {
             takers,
             firers,
+            block_inlets,
             inlets,
             starters,
         })
@@ -178,6 +183,22 @@ fn add_inlet(
         Kind::Enter { .. } => add(alloc, inlets, block, x),
         _ => Ok(()),
     }
+}
+
+// Adds a node to the list of its block, where it is an inlet.
+fn add_block_inlet(
+    alloc: Global,
+    lists: &mut Vec<Vec<u32>>,
+    block: u32,
+    kind: Kind,
+    x: u32,
+) -> Result<(), AllocError>
+    ensures ok { OnOk result ((z : ℕ) → listed lists.new.items z ≡ listed lists.old.items z ++ where_so ((block == z) && is_inlet kind) x) }
+{
+    if !is_inlet(kind) {
+        return Ok(());
+    }
+    add(alloc, lists, block, x)
 }
 
 // Whether a node has no operand.

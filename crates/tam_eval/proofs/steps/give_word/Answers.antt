@@ -1,11 +1,24 @@
-use Rattle.std.proofs.Common.{◌≡◌, ◌∙◌, sym, ap, ℕ, true, false}
-use Rattle.tam_graph.specs.Graphs.{code_of}
-use Rattle.tam_world.specs.Worlds.{has_word}
+use Rattle.std.proofs.Common.{◌≡◌, ◌∙◌, sym, ap, ℕ, List, true, false}
+use Rattle.tam_graph.specs.Graphs.{Graph, code_of}
+use Rattle.tam_world.specs.Worlds.{World, activation_at, has_word, got, changes}
 use Rattle.tam_world.specs.Kept.{pairs_of}
 use Rattle.tam_world.specs.Takers.{takers_of, takers_now}
-use Rattle.tam_eval.specs.Machines.{state_of}
+use Rattle.tam_eval.specs.Machines.{EvalState, state_of}
+use Rattle.tam_eval.specs.Effects.{effected}
+use Rattle.tam_eval.specs.Waiting.{is_awaited}
 use Rattle.tam_eval.proofs.Stepping.{state-got, ready-had, takers-first}
+use Rattle.tam_eval.proofs.VerticesLeft.{awaited-got}
+use Rattle.tam_eval.proofs.KeepingCounts.{keeps-again, keeps-got, keeps-less, some-awaited}
 use Rattle.tam_eval.proofs.steps.give_word.Goals as goal
+
+-- the list that the code takes is that of the takers
+takers-are : (g : Graph) (s : EvalState) (i y k : ℕ) (takers : List ℕ) → has_word s.world i y ≡ false
+    → k ≡ (activation_at s.world i).code → takers ≡ takers_of (code_of g k) y → takers ≡ takers_now g s.world i y
+takers-are g s i y k takers none code is = is ∙ ap (λ (n : ℕ). takers_of (code_of g n) y) code ∙ sym (takers-first g s i y none)
+
+-- whether a node is awaited in the world in which it got its word
+awaited-then : (g h : Graph) (w v : World) (i y u : ℕ) → h ≡ g → v ≡ got w i y u → is_awaited h v i y ≡ is_awaited g w i y
+awaited-then g h w v i y u same is = ap (λ (k : Graph). is_awaited k v i y) same ∙ ap (λ (z : World). is_awaited g z i y) is ∙ awaited-got g w i y u
 
 pub returns-then-had-clause-value : goal.returns-then-had-clause-value
 returns-then-had-clause-value c =
@@ -14,13 +27,90 @@ returns-then-had-clause-value c =
     state-got c.args.program.now s c.args.at.activation c.args.at.node c.args.word c.give.new.self s.ready c.in_ok-give.ensures.ok
     (ready-had c.args.program.now s c.args.at.activation c.args.at.node _ had)
 
-pub returns-clause-value : goal.returns-clause-value
-returns-clause-value c =
+pub returns-then-had-clause-counts : goal.returns-then-had-clause-counts
+returns-then-had-clause-counts c =
     let s = state_of c.args.machine.now in
+    let t : EvalState = record s { world = c.give.new.self } in
+    let had : has_word s.world c.args.at.activation c.args.at.node ≡ true = sym c.has_word-had.ensures.value ∙ c.if-had.true in
+    keeps-again c.args.program.now s t c.args.at.activation c.args.at.node c.args.word
+    (state-got c.args.program.now s c.args.at.activation c.args.at.node c.args.word c.give.new.self s.ready c.in_ok-give.ensures.ok
+    (ready-had c.args.program.now s c.args.at.activation c.args.at.node _ had)) c.args.machine.now.left had
+
+pub less-requires : goal.less-requires
+less-requires c =
     let g = c.args.program.now in
-    let had : has_word s.world c.args.at.activation c.args.at.node ≡ false = sym c.has_word-had.ensures.value ∙ c.if-had.false in
-    let list_is : c.takers-takers.result.now ≡ takers_now g s.world c.args.at.activation c.args.at.node =
-    c.takers-takers.ensures.value ∙ ap (λ (k : ℕ). takers_of (code_of g k) c.args.at.node) c.code_at-code.ensures.value
-    ∙ sym (takers-first g s c.args.at.activation c.args.at.node had) in
-    state-got g s c.args.at.activation c.args.at.node c.args.word c.give.new.self (pairs_of c.ready_among.new.ready.items) c.in_ok-give.ensures.ok
-    (rw (c.graph.ensures.value, list_is) at c.in_ok-ready_among.ensures.ok)
+    let s = state_of c.args.machine.now in
+    let i = c.args.at.activation in
+    let y = c.args.at.node in
+    let none : has_word s.world i y ≡ false = sym c.has_word-had.ensures.value ∙ c.if-had.false in
+    let takers = takers-are g s i y c.code_at-code.result c.takers-takers.result.now none c.code_at-code.ensures.value
+    c.takers-takers.ensures.value in
+    let awaited : is_awaited g s.world i y ≡ true = sym (awaited-then g c.graph-2.result.now s.world c.give.new.self i y c.args.word
+    c.graph-2.ensures.value c.in_ok-give.ensures.ok) ∙ sym c.is_awaited.ensures.value ∙ c.if-is_awaited.true in
+    let is : record s { world = c.give.new.self; ready = pairs_of c.ready_among.new.ready.items } ≡ effected g s (changes (got s.world i y c.args.word)) =
+    state-got g s i y c.args.word c.give.new.self (pairs_of c.ready_among.new.ready.items) c.in_ok-give.ensures.ok
+    (rw (c.graph.ensures.value, takers) at c.in_ok-ready_among.ensures.ok) in
+    record {
+      some = some-awaited g s (record s { world = c.give.new.self; ready = pairs_of c.ready_among.new.ready.items }) i y c.args.word is
+          c.args.machine.now.left none awaited (c.requires.covered.least i);
+    }
+
+pub returns-then-is_awaited-clause-value : goal.returns-then-is_awaited-clause-value
+returns-then-is_awaited-clause-value c =
+    let g = c.args.program.now in
+    let s = state_of c.args.machine.now in
+    let i = c.args.at.activation in
+    let y = c.args.at.node in
+    let none : has_word s.world i y ≡ false = sym c.has_word-had.ensures.value ∙ c.if-had.false in
+    let takers = takers-are g s i y c.code_at-code.result c.takers-takers.result.now none c.code_at-code.ensures.value
+    c.takers-takers.ensures.value in
+    state-got g s i y c.args.word c.give.new.self (pairs_of c.ready_among.new.ready.items) c.in_ok-give.ensures.ok
+    (rw (c.graph.ensures.value, takers) at c.in_ok-ready_among.ensures.ok)
+
+pub returns-else-is_awaited-clause-value : goal.returns-else-is_awaited-clause-value
+returns-else-is_awaited-clause-value c =
+    let g = c.args.program.now in
+    let s = state_of c.args.machine.now in
+    let i = c.args.at.activation in
+    let y = c.args.at.node in
+    let none : has_word s.world i y ≡ false = sym c.has_word-had.ensures.value ∙ c.if-had.false in
+    let takers = takers-are g s i y c.code_at-code.result c.takers-takers.result.now none c.code_at-code.ensures.value
+    c.takers-takers.ensures.value in
+    state-got g s i y c.args.word c.give.new.self (pairs_of c.ready_among.new.ready.items) c.in_ok-give.ensures.ok
+    (rw (c.graph.ensures.value, takers) at c.in_ok-ready_among.ensures.ok)
+
+pub returns-then-is_awaited-clause-counts : goal.returns-then-is_awaited-clause-counts
+returns-then-is_awaited-clause-counts c =
+    let g = c.args.program.now in
+    let s = state_of c.args.machine.now in
+    let i = c.args.at.activation in
+    let y = c.args.at.node in
+    let none : has_word s.world i y ≡ false = sym c.has_word-had.ensures.value ∙ c.if-had.false in
+    let takers = takers-are g s i y c.code_at-code.result c.takers-takers.result.now none c.code_at-code.ensures.value
+    c.takers-takers.ensures.value in
+    let awaited : is_awaited g s.world i y ≡ true = sym (awaited-then g c.graph-2.result.now s.world c.give.new.self i y c.args.word
+    c.graph-2.ensures.value c.in_ok-give.ensures.ok) ∙ sym c.is_awaited.ensures.value ∙ c.if-is_awaited.true in
+    let t : EvalState = record s { world = c.give.new.self; ready = pairs_of c.ready_among.new.ready.items } in
+    let is : t ≡ effected g s (changes (got s.world i y c.args.word)) =
+    state-got g s i y c.args.word c.give.new.self (pairs_of c.ready_among.new.ready.items) c.in_ok-give.ensures.ok
+    (rw (c.graph.ensures.value, takers) at c.in_ok-ready_among.ensures.ok) in
+    let l = c.args.machine.now.left in
+    rw c.less.ensures.value (keeps-less g s t i y c.args.word is l none awaited
+    (some-awaited g s t i y c.args.word is l none awaited (c.requires.covered.least i)))
+
+pub returns-else-is_awaited-clause-counts : goal.returns-else-is_awaited-clause-counts
+returns-else-is_awaited-clause-counts c =
+    let g = c.args.program.now in
+    let s = state_of c.args.machine.now in
+    let i = c.args.at.activation in
+    let y = c.args.at.node in
+    let none : has_word s.world i y ≡ false = sym c.has_word-had.ensures.value ∙ c.if-had.false in
+    let takers = takers-are g s i y c.code_at-code.result c.takers-takers.result.now none c.code_at-code.ensures.value
+    c.takers-takers.ensures.value in
+    let unawaited : is_awaited g s.world i y ≡ false = sym (awaited-then g c.graph-2.result.now s.world c.give.new.self i y c.args.word
+    c.graph-2.ensures.value c.in_ok-give.ensures.ok) ∙ sym c.is_awaited.ensures.value ∙ c.if-is_awaited.false in
+    let t : EvalState = record s { world = c.give.new.self; ready = pairs_of c.ready_among.new.ready.items } in
+    let is : t ≡ effected g s (changes (got s.world i y c.args.word)) =
+    state-got g s i y c.args.word c.give.new.self (pairs_of c.ready_among.new.ready.items) c.in_ok-give.ensures.ok
+    (rw (c.graph.ensures.value, takers) at c.in_ok-ready_among.ensures.ok) in
+    keeps-got g s t i y c.args.word is c.args.machine.now.left none unawaited

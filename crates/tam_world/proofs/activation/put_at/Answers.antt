@@ -1,4 +1,4 @@
-use Rattle.std.proofs.Common.{◌≡◌, ◌∙◌, sym, ap, not, true, ◌++◌, ◌∷◌, [], ◌≤◌, ◌<◌, length, is_ok, arith}
+use Rattle.std.proofs.Common.{◌≡◌, ◌∙◌, sym, ap, ◌++◌, ◌∷◌, [], ◌≤◌, ◌<◌, length, arith}
 use Rattle.tam_word.specs.Lists.{put_at}
 use Rattle.tam_world.proofs.Putting.{put_at-longer, put_at-inside}
 use Rattle.tam_world.proofs.activation.put_at.Goals as goal

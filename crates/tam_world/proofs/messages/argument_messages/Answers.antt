@@ -1,6 +1,5 @@
-use Rattle.std.proofs.Common.{◌≡◌, ◌∙◌, ap, ◌++◌, List, get_or, add-one}
+use Rattle.std.proofs.Common.{◌≡◌, get_or, add-one}
 use Rattle.std.specs.Prelude.{option_to_list}
-use Rattle.tam_msgs.specs.declared.message.Message.{Message}
 use Rattle.tam_world.specs.Worlds.{argument_message}
 use Rattle.tam_world.proofs.Arguments.{arguments-next}
 use Rattle.tam_world.proofs.messages.argument_messages.Goals as goal

@@ -1,4 +1,4 @@
-use Rattle.std.proofs.Common.{◌≡◌, ◌∙◌, ap, subst, not, true, ◌++◌, ◌∷◌, [], length, is_ok, add-one, arith}
+use Rattle.std.proofs.Common.{◌≡◌, subst, ◌++◌, ◌∷◌, [], length, add-one, arith}
 use Rattle.tam_world.proofs.TableLists.{AreTablesBelow, tables-next, tables-all}
 use Rattle.tam_world.proofs.program.tables_of.Goals as goal
 

@@ -1,5 +1,5 @@
 -- The report of each run of an accepted graph is borne out by a journal over one class per vertex.
-use Rattle.std.proofs.Common.{ℕ, List, refl, sym, subst, ap, ◌∙◌, arith}
+use Rattle.std.proofs.Common.{ℕ, List, length, refl, sym, subst, ap, ◌∙◌, arith}
 use Rattle.std.specs.Prelude.{IsTrue}
 use Rattle.tam_graph.specs.Graphs.{Graph, AreArguments}
 use Rattle.tam_graph.specs.Accepted.{IsAccepted}
@@ -9,7 +9,8 @@ use Rattle.tam_msgs.specs.declared.item.Item.{Item}
 use Rattle.tam_msgs.specs.declared.limits.Limits.{Limits}
 use Rattle.tam_msgs.specs.Messages.{AreLimits}
 use Rattle.tam_msgs.specs.Runs.{run_from, End, Quiet, Double_write, Out_of_range, Frames_full, Cells_full, Budget_spent, Wild, Trap}
-use Rattle.tam_world.specs.Worlds.{opening}
+use Rattle.tam_istr.specs.Cells.{cells_used}
+use Rattle.tam_world.specs.Worlds.{World, opening}
 use Rattle.tam_flow.specs.Journals.{State, Event, initial, is_legal, state_after, on_their_way}
 use Rattle.tam_flow.specs.JournalLaws.{IsJournal}
 use Rattle.tam_flow.proofs.JournalsReached.{journals-reached}
@@ -17,7 +18,7 @@ use Rattle.tam_eval.specs.GraphRuns.{GraphState, graph_step, graph_opening, grap
 use Rattle.tam_eval.proofs.WorldSizes.{Few}
 use Rattle.tam_eval.proofs.StepsCaughtUp.{AllReached, reached-now, reached-on}
 use Rattle.tam_eval.proofs.Opening.{opening-follows, opening-same, opening-charge}
-use Rattle.tam_eval.proofs.Running.{EndFits, EndGoes, run-goes}
+use Rattle.tam_eval.proofs.Running.{EndFits, EndGoes, run-goes, opening-sized}
 use Rattle.tam_eval.proofs.Charges.{Charged}
 use Rattle.tam_eval.proofs.Instances.{charged-is}
 use Rattle.tam_eval.proofs.Quiet.{none-follows}
@@ -50,7 +51,7 @@ module _ (g : Graph) (args : List ℕ) (order : List Item) (limits : Limits) (ac
       (run_from (graph_step g limits) limits.budget d).1)
       (sym (opening-same g args order))
       (run-goes g accepted args limits limits.budget (initial g args) all 0 (omega arith) ranges
-      (let f = ranges.some_frame in record { activations = omega arith; arrays = omega arith })
+      (opening-sized g args)
       (opening-charge g args) (joins g nothing_begun (opening g)) order (opening-follows g args))
 
   -- it leaves few activations and arrays
@@ -80,13 +81,15 @@ module _ (g : Graph) (args : List ℕ) (order : List Item) (limits : Limits) (ac
     e,
     omega (arith, l),
     (way.0, way.1, way.2, in-contains (Begin way.0 way.1 way.2) (on_their_way (state_after g (singles g) args goes.events)) way.3),
+    whole,
   )
   bears-out (Cells_full u l) made (whole, may, e, k, way) = (
     e,
     k,
     (way.0, way.1, in-contains (Make l way.0 way.1) (on_their_way (state_after g (singles g) args goes.events)) way.2),
+    whole,
   )
-  bears-out (Budget_spent n) made (whole, may, e, k) = (e, k)
+  bears-out (Budget_spent n) made (whole, may, e, k) = (e, k, whole)
   bears-out (Wild what n) made f = absurd f
   bears-out (Trap pc cause) made f = absurd f
 
@@ -96,6 +99,8 @@ module _ (g : Graph) (args : List ℕ) (order : List Item) (limits : Limits) (ac
     events = goes.events;
     journal = journal;
     printed = ap (λ (u : State). u.printed) goes.goes.ends ∙ goes.printed;
+    activations = ap (λ (u : State). length u.world.activations) goes.goes.ends ∙ ap (λ (w : World). length w.activations) goes.world;
+    cells = ap (λ (u : State). cells_used u.world.arrays) goes.goes.ends ∙ ap (λ (w : World). cells_used w.arrays) goes.world;
     results = refl;
     ends = bears-out (run_from (graph_step g limits) limits.budget (graph_opening g args order)).0
         (run_from (graph_step g limits) limits.budget (graph_opening g args order)).1.events

@@ -1,11 +1,11 @@
 -- The partitions of a graph by least pairs, code by code, and that each code has its own.
-use Rattle.std.proofs.Common.{◌≡◌, ℕ, zero, suc, ◌<◌, List, [], ◌∷◌, ◌++◌, map, length, slice_get, Option, Some, None, refl, sym, ap, ap₂, subst, ◌∙◌}
+use Rattle.std.proofs.Common.{◌≡◌, ℕ, ◌<◌, List, map, length, slice_get, sym, ap, ◌∙◌}
 use Rattle.std.proofs.Common.{arith}
 use Rattle.std.specs.Option.{option_map}
 use Rattle.std.proofs.lemmas.Option.{slice_get-map}
 use Rattle.std.proofs.lemmas.List.{length-map}
 use Rattle.tam_word.specs.Lists.{below}
-use Rattle.tam_graph.specs.Graphs.{Code, Graph, or_code, code_of, blocks_of}
+use Rattle.tam_graph.specs.Graphs.{Code, Graph, code_of, blocks_of}
 use Rattle.tam_graph.specs.Accepted.{IsAccepted}
 use Rattle.tam_graph.proofs.CodeNames.{code-there}
 use Rattle.tam_graph.proofs.FewNodes.{length-below}

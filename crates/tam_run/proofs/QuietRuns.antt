@@ -7,15 +7,20 @@ use Rattle.tam_word.proofs.Members.{In, Distinct, in-get, in-any, any-in}
 use Rattle.tam_graph.specs.Graphs.{Graph}
 use Rattle.tam_fire.specs.FiringRules.{Result}
 use Rattle.tam_msgs.specs.declared.limits.Limits.{Limits}
-use Rattle.tam_msgs.specs.Messages.{site_pair}
 use Rattle.tam_msgs.specs.Runs.{End, Quiet, Double_write, Out_of_range, Frames_full, Cells_full, Budget_spent, Wild, Trap, Report, missing_of, is_without}
 use Rattle.tam_run.specs.declared.level.Level.TheVariants as level
 use Rattle.tam_flow.specs.Headline.{IsRight, LinesDiffer, HasCause}
-use Rattle.tam_run.specs.RightRuns.{RunsAreBorneOut, RunsAreRight, HasRoom, RoomIsQuiet, SameLines, QuietRunsAgree, NoResultIsMissing}
+use Rattle.tam_run.specs.RightRuns.{RunsAreBorneOut, RunsAreRight, HasRoom, RoomIsQuiet, LiveRoomIsQuiet, SameLines, QuietRunsAgree, NoResultIsMissing}
 use Rattle.tam_flow.proofs.JournalResults.{contains-in, in-contains}
 use Rattle.tam_flow.proofs.RightJournals.{borne-right}
 use Rattle.tam_run.proofs.GraphJournals.{run-borne}
-use Rattle.tam_split.specs.GraphPartitions.{singles}
+use Rattle.tam_split.specs.GraphPartitions.{Partitions, singles, partitions}
+use Rattle.tam_flow.specs.BorneOut.{BearsOut, IsBorneOut}
+use Rattle.tam_run.specs.Writing.{IsWild}
+use Rattle.tam_eval.specs.GraphRuns.{graph_told}
+use Rattle.tam_eval.proofs.Enough.{enough-is_not_refused}
+use Rattle.tl0_keep.specs.ThreadLaws.{ThreadRunsAreBorneOut, RoomIsQuiet as Threads_quiet}
+use Rattle.tl0_keep.proofs.whole.Quiet.{aside-quiet}
 
 -- ---- lists
 
@@ -147,14 +152,13 @@ module _ (g : Graph) (args : List ℕ) where
 
   -- with room no end but quiet has a cause
   room-quiet : (limits : Limits) → HasRoom g args limits → (how : End) → HasCause g args limits how → how ≡ Quiet
-  room-quiet limits room Quiet h = refl
-  room-quiet limits room (Double_write s t) h = absurd (room.no_double (site_pair s) (site_pair t) h)
-  room-quiet limits room (Out_of_range s i l) h = absurd (room.no_outside (site_pair s) i l h)
-  room-quiet limits room (Frames_full n) h = let few = room.activations h.1.0 h.1.1 h.1.2 in absurd (omega (arith, few, h.0, h.1.3))
-  room-quiet limits room (Cells_full u l) h = let few = room.cells h.1.0 h.1.1 h.1.2 in absurd (omega (arith, few, h.1.3))
-  room-quiet limits room (Budget_spent n) h = let few = room.instances h.1.0 h.1.1 h.1.2 in absurd (omega (arith, few, h.0, h.1.3))
-  room-quiet limits room (Wild what n) h = absurd h
-  room-quiet limits room (Trap pc cause) h = absurd h
+  room-quiet limits room how h = aside-quiet g args limits room.aside how refused h
+    where
+      refused : (n : ℕ) → how ≡ Frames_full n → ⊥
+      refused n e =
+          let c = subst (HasCause g args limits) e h in
+          let few = room.activations c.1.0 c.1.1 c.1.2 in
+          absurd (omega (arith, few, c.0, c.1.3))
 
   -- of a report that is right no result that the rules give is missing
   none-missing : (limits : Limits) (r : Report) → IsRight g args limits r → (k w : ℕ) → Result g args k w
@@ -177,11 +181,17 @@ module _ (g : Graph) (args : List ℕ) where
       go (Wild what n) e = other (Wild what n) e refl
       go (Trap pc cause) e = other (Trap pc cause) e refl
 
+-- what is borne out isn't wild
+pub borne-not_wild : (g : Graph) (all : Partitions) (args : List ℕ) (limits : Limits) (r : Report) → IsBorneOut g all args limits r → IsWild r.how → ⊥
+borne-not_wild g all args limits r borne wild = subst (λ how. BearsOut g all args limits borne.events r.events how) wild.2 borne.ends
+
 -- ---- the law
 
 -- each run is borne out
-pub runs_are-borne : RunsAreBorneOut
-runs_are-borne level.Graph g args order limits accepted arguments ranges = (singles g, run-borne g args order limits accepted arguments ranges)
+pub runs_are-borne : ThreadRunsAreBorneOut → RunsAreBorneOut
+runs_are-borne borne level.Graph g args order limits accepted arguments ranges = (singles g, run-borne g args order limits accepted arguments ranges)
+runs_are-borne borne level.Tl0 g args order limits accepted arguments ranges =
+    (partitions g, borne g args order limits (record { accepted = accepted; arguments = arguments; ranges = ranges }))
 
 -- what is borne out is right
 pub runs_are-right : RunsAreRight
@@ -190,6 +200,13 @@ runs_are-right g all args limits r borne = borne-right g all args limits r borne
 -- with room it is quiet
 pub room_is-quiet : RoomIsQuiet
 room_is-quiet g all args limits r borne room = room-quiet g args limits room r.how (borne-right g all args limits r borne).cause
+
+-- with room for the live ones, and for all else, it is quiet
+pub live_room-is-quiet : Threads_quiet → LiveRoomIsQuiet
+live_room-is-quiet quiet level.Graph g args order limits job room suffice =
+    aside-quiet g args limits room (graph_told g args order limits).how (λ n e. enough-is_not_refused g args order limits n suffice e)
+    (borne-right g (singles g) args limits (graph_told g args order limits) (run-borne g args order limits job.accepted job.arguments job.ranges)).cause
+live_room-is-quiet quiet level.Tl0 g args order limits job room suffice = quiet g args order limits job room suffice
 
 -- quiet runs agree
 pub quiet_runs-agree : QuietRunsAgree

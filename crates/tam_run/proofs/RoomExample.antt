@@ -7,7 +7,7 @@ use Rattle.tam_graph.specs.Graphs.{is_outlet}
 use Rattle.tam_fire.specs.FiringRules.{Path, Fact, Begun, Entered, Val, Fired, Rule, body_is_entered, const_gives, op_gives, seq_gives, outlet_fires}
 use Rattle.tam_fire.specs.FiringRules.{call_begins, call_answers, arg_comes, result_comes, alloc_answers, fetch_answers, cond_enters, switch_comes, out_comes}
 use Rattle.tam_fire.specs.FiringRules.{Given, root_has_begun, param_has, Known, Holds, node_of, Instance, Giver, Firer, IsActive, Instances, Activations}
-use Rattle.tam_fire.specs.FiringRules.{Asked, Allocs, cells_of, DoubleWrite, OutsideAccess}
+use Rattle.tam_fire.specs.FiringRules.{Asked, Allocs, cells_of}
 use Rattle.tam_fire.proofs.Following.{holds-induction}
 use Rattle.tam_msgs.specs.declared.limits.Limits.{Limits}
 use Rattle.tam_run.specs.RightRuns.{HasRoom}
@@ -67,11 +67,13 @@ one-begun n (p ∷ q ∷ qs) h =
 -- THE EXAMPLE
 pub nothing-has_room : (limits : Limits) → 1 ≤ limits.frames → 16 ≤ limits.budget → HasRoom nothing_graph [] limits
 nothing-has_room limits one enough = record {
-  instances = instances;
   activations = λ n qs h. omega (arith, one-begun n qs h, one);
-  cells = cells;
-  no_double = λ s t d. known-root d.first.0 _ d.first.1;
-  no_outside = λ s i l d. known-root d.made.0 _ d.made.1;
+  aside = record {
+    instances = instances;
+    cells = cells;
+    no_double = λ s t d. known-root d.first.0 _ d.first.1;
+    no_outside = λ s i l d. known-root d.made.0 _ d.made.1;
+  };
 }
   where
     instances : (n : ℕ) (xs : List Instance) → Instances (Known nothing_graph [] n) xs → 4 * length xs + 16 ≤ limits.budget

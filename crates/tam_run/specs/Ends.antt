@@ -1,5 +1,5 @@
 -- The ends of runs as the code has them.
-use Rattle.std.specs.Prelude.{ℕ, ◌≢◌, Option, None, Some}
+use Rattle.std.specs.Prelude.{Option, None, Some}
 use Rattle.tam_msgs.specs.declared.stop.Stop.{Stop}
 use Rattle.tam_msgs.specs.declared.stop.Stop.TheVariants.{DoubleWrite, OutOfRange, FramesFull, CellsFull, BudgetSpent, NoMemory}
 use Rattle.tam_msgs.specs.Runs.{End, Quiet, Double_write, Out_of_range, Frames_full, Cells_full, Budget_spent}

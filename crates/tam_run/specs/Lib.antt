@@ -2,4 +2,8 @@ pub mod LineLists
 pub mod Ends
 pub mod Levels
 pub mod Writing
+pub mod Remaining
+pub mod GraphRemaining
+pub mod ThreadRemaining
 pub mod RightRuns
+pub mod GraphNames

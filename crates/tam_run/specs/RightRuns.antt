@@ -1,17 +1,20 @@
 -- The law of runs, of every level: each run of an accepted graph is borne out by a journal; so it is right, where the limits leave room it is quiet, and
 -- quiet runs agree, whatever the levels, the orders and the limits.
-use Rattle.std.specs.Prelude.{ℕ, ◌+◌, ◌*◌, ◌≤◌, ◌≡◌, List, length, Contains, IsPermutation}
+use Rattle.std.specs.Prelude.{ℕ, ◌≤◌, ◌≡◌, List, length, Contains, IsPermutation}
 use Rattle.tam_msgs.specs.declared.item.Item.{Item}
 use Rattle.tam_msgs.specs.declared.limits.Limits.{Limits}
 use Rattle.tam_msgs.specs.Messages.{AreLimits}
 use Rattle.tam_msgs.specs.Runs.{Quiet, Report, missing_of}
 use Rattle.tam_graph.specs.Graphs.{Graph, AreArguments}
 use Rattle.tam_graph.specs.Accepted.{IsAccepted}
-use Rattle.tam_fire.specs.FiringRules.{Path, Known, Result, DoubleWrite, OutsideAccess, Instance, Instances, Activations, Asked, Allocs, cells_of}
+use Rattle.tam_fire.specs.FiringRules.{Path, Known, Result, Activations}
 use Rattle.tam_split.specs.GraphPartitions.{Partitions}
 use Rattle.tam_flow.specs.BorneOut.{IsBorneOut}
 use Rattle.tam_flow.specs.Headline.{IsRight}
 use Rattle.tam_run.specs.declared.level.Level.{Level}
+use Rattle.tam_run.specs.declared.level.Level.TheVariants as level
+use Rattle.tam_eval.specs.GraphLaws.{ActivationsSuffice}
+use Rattle.tl0_keep.specs.ThreadLaws.{IsJob, HasRoomAside, FramesSuffice}
 use Rattle.tam_run.specs.Levels.{told_at}
 
 -- each run of an accepted graph, at every level, is borne out by a journal over some valid partitions
@@ -23,18 +26,25 @@ RunsAreBorneOut = (level : Level) (g : Graph) (args : List ℕ) (order : List It
 abbrev pub RunsAreRight : Type 0
 RunsAreRight = (g : Graph) (all : Partitions) (args : List ℕ) (limits : Limits) (r : Report) → IsBorneOut g all args limits r → IsRight g args limits r
 
--- the limits leave room for what the rules give, which has no double write and no access outside
+-- the limits leave room for what the rules give: for its activations, and for all else
 pub record HasRoom (g : Graph) (args : List ℕ) (limits : Limits) : Type 0 where
-  pub instances : (n : ℕ) (xs : List Instance) → Instances (Known g args n) xs → 4 * length xs + 16 ≤ limits.budget
   pub activations : (n : ℕ) (qs : List Path) → Activations (Known g args n) qs → length qs ≤ limits.frames
-  pub cells : (n : ℕ) (asks : List Asked) → Allocs g (Known g args n) asks → cells_of asks ≤ limits.cells
-  pub no_double : (s t : ℕ × ℕ) → ¬ DoubleWrite g args s t
-  pub no_outside : (s : ℕ × ℕ) (i l : ℕ) → ¬ OutsideAccess g args s i l
+  pub aside : HasRoomAside g args limits
 
 -- a run that is borne out within such limits is quiet
 abbrev pub RoomIsQuiet : Type 0
 RoomIsQuiet = (g : Graph) (all : Partitions) (args : List ℕ) (limits : Limits) (r : Report) → IsBorneOut g all args limits r → HasRoom g args limits
     → r.how ≡ Quiet
+
+-- at each delivery of a wish for an activation in the run at a level, the live ones and the one asked for are within the stated count
+abbrev pub LiveSuffice : Level → Graph → List ℕ → List Item → Limits → Type 0
+LiveSuffice level.Graph g args order limits = ActivationsSuffice g args order limits
+LiveSuffice level.Tl0 g args order limits = FramesSuffice g args order limits
+
+-- where the limits leave room for all else, and for the live ones, the run is quiet
+abbrev pub LiveRoomIsQuiet : Type 0
+LiveRoomIsQuiet = (level : Level) (g : Graph) (args : List ℕ) (order : List Item) (limits : Limits) → IsJob g args limits → HasRoomAside g args limits
+    → LiveSuffice level g args order limits → (told_at level g args order limits).how ≡ Quiet
 
 -- two reports have the same lines but for their order, and the same missing lines
 pub record SameLines (r s : Report) : Type 0 where

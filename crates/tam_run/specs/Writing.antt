@@ -1,18 +1,24 @@
 -- What a run wrote, by how it ended.
 -- The rule in words: docs/FORMATS.md, "The text of a run".
-use Rattle.std.specs.Prelude.{◌≡◌, ◌≤◌, ℕ, List, ◌++◌, length, flat_map, Option, Some, Result, Ok, Err}
+use Rattle.std.specs.Prelude.{◌≡◌, ℕ, List, ◌++◌, length, flat_map, Option, Some, Result, Ok, Err}
 use Rattle.std.specs.Io.KnownBytes.{Appends}
 use Rattle.tam_edge.specs.Faults.{CountsFault}
 use Rattle.tam_edge.specs.Whole.{AppendsFront}
 use Rattle.tam_msgs.specs.declared.stop.Stop.{Stop}
 use Rattle.tam_msgs.specs.declared.stop.Stop.TheVariants.{NoMemory}
-use Rattle.tam_msgs.specs.Runs.{Report, End, Quiet, result_line, last_lines, joined, text_of, missing_of}
+use Rattle.tam_msgs.specs.Runs.{Report, End, Quiet, Wild, WildCause, result_line, last_lines, joined, text_of, missing_of}
 use Rattle.tam_msgs.specs.declared.counts.Counts.{Counts}
 use Rattle.tam_run.specs.declared.outcome.Outcome.{Outcome}
 use Rattle.tam_run.specs.declared.outcome.Outcome.TheVariants as outcome
+use Rattle.tam_run.specs.declared.exec.Exec.{Exec}
+use Rattle.tam_run.specs.declared.exec.Exec.TheVariants as exec
 use Rattle.tam_run.specs.declared.broken.Broken.{Broken}
 use Rattle.tam_run.specs.declared.broken.Broken.TheVariants as broken
 use Rattle.tam_run.specs.Ends.{end_of_stop}
+
+-- the end of a run is wild
+abbrev pub IsWild : End → Type 0
+IsWild how = (what : WildCause) × (number : ℕ) × (how ≡ Wild what number)
 
 -- what the text tells of a run that printed these words, ended so, and counted so
 abbrev pub told_of : List (ℕ × ℕ) → End → ℕ → Counts → Report
@@ -38,6 +44,16 @@ Writes r old new outcome.WriteFault = AppendsFront old new (text_of r)
 abbrev pub CountsRun : ℕ → ℕ → Outcome → Type 0
 CountsRun before now outcome.WriteFault = CountsFault before now
 CountsRun before now ended = now ≡ before
+
+-- by the end of a run of thread code: as a run of a graph, or its whole text where it is wild
+abbrev pub Executes : Report → Option (List ℕ) → Option (List ℕ) → Exec → Type 0
+Executes r old new (exec.Run ended) = Writes r old new ended
+Executes r old new exec.Wild = Appends old new (text_of r) × IsWild r.how
+
+-- the count of the sink's faults, as for a run of a graph
+abbrev pub CountsExec : ℕ → ℕ → Exec → Type 0
+CountsExec before now (exec.Run ended) = CountsRun before now ended
+CountsExec before now exec.Wild = now ≡ before
 
 -- the text was written, or nothing for want of memory, or a front of it before a fault
 abbrev pub Puts : {T : Type 0} → Option (List ℕ) → Option (List ℕ) → List ℕ → Result T Broken → Type 0
@@ -71,3 +87,8 @@ Finishes r old new outcome.WriteFault = AppendsFront old new (joined (last_lines
 abbrev pub StopsSo : Stop → Counts → Option (List ℕ) → Option (List ℕ) → Outcome → Type 0
 StopsSo stop counts old new result =
     (how : End) (results : ℕ) (printed : List (ℕ × ℕ)) → end_of_stop stop ≡ Some how → Finishes (told_of printed how results counts) old new result
+
+-- the same of a run of thread code
+abbrev pub FinishesSo : Report → Option (List ℕ) → Option (List ℕ) → Exec → Type 0
+FinishesSo r old new (exec.Run ended) = Finishes r old new ended
+FinishesSo r old new exec.Wild = Appends old new (joined (last_lines r)) × IsWild r.how

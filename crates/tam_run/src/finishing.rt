@@ -1,18 +1,20 @@
 // The end of a run: the lines behind its results.
-ghost use Rattle.std.specs.Prelude.{◌≡◌, length, filter};
+ghost use Rattle.std.specs.Prelude.{◌≡◌, ℕ, List, length, filter};
 ghost use Rattle.tam_word.specs.Lists.{below};
 ghost use Rattle.tam_msgs.specs.declared.stop.Stop.TheVariants.{NoMemory};
 ghost use Rattle.tam_msgs.specs.Runs.{is_without};
 ghost use Rattle.tam_msgs.specs.Runs as Runs;
 ghost use Rattle.tam_run.specs.declared.outcome.Outcome.TheVariants as RunOutcome;
-ghost use Rattle.tam_run.specs.Writing.{told_of, outcome_of, Finishes, StopsSo, CountsRun};
+ghost use Rattle.tl0_machine.specs.ThreadStates.{cause_of};
+ghost use Rattle.tam_run.specs.Writing.{told_of, outcome_of, Finishes, FinishesSo, StopsSo, CountsRun, CountsExec};
 
-use crate::last_lines::{is_printed, quiet_lines, stopped_lines};
+use crate::last_lines::{is_printed, quiet_lines, stopped_lines, wild_lines};
 use crate::writing::put_lines;
-use crate::{Broken, Outcome};
+use crate::{Broken, Exec, Outcome};
 use std::alloc::Global;
 use tam_edge::Sink;
 use tam_msgs::{Counts, Stop};
+use tl0_machine::Wild;
 
 // How many of the results below a number were not printed.
 fn missing_count(printed: &[(u32, u32)], results: u32) -> u32
@@ -68,5 +70,23 @@ pub fn finish_stopped<K: Sink>(alloc: Global, stop: Stop, counts: Counts, out: &
     match put_lines(stopped_lines(alloc, stop, counts), out) {
         Ok(()) => Outcome::Stopped(stop),
         Err(broken) => outcome_of(broken),
+    }
+}
+
+/// Writes the lines behind the results of a run that is wild.
+pub fn finish_wild<K: Sink>(
+    alloc: Global,
+    what: Wild,
+    number: u32,
+    counts: Counts,
+    out: &mut K,
+) -> Exec
+    ensures text { (results : ℕ) (printed : List (ℕ × ℕ)) → FinishesSo (told_of printed (Runs.Wild (cause_of what) number) results counts)
+        (K.taken out.old) (K.taken out.new) result }
+    ensures counted { CountsExec (K.faults out.old) (K.faults out.new) result }
+{
+    match put_lines(wild_lines(alloc, what, number, counts), out) {
+        Ok(()) => Exec::Wild,
+        Err(broken) => Exec::Run(outcome_of(broken)),
     }
 }

@@ -3,13 +3,15 @@ ghost use Rattle.std.specs.Prelude.{◌≡◌, ◌++◌, ◌∷◌, ◌==◌, ma
 ghost use Rattle.tam_word.specs.Lists.{below, any_of, where_so};
 ghost use Rattle.tam_msgs.specs.Runs.{line, end_text, missing_line, is_without, count_lines, last_lines};
 ghost use Rattle.tam_msgs.specs.Runs as Runs;
+ghost use Rattle.tl0_machine.specs.ThreadStates.{cause_of};
 ghost use Rattle.tam_run.specs.Ends.{end_of_stop};
 ghost use Rattle.tam_run.specs.LineLists.{texts_of};
 ghost use Rattle.tam_run.specs.Writing.{told_of};
 
-use crate::lines::{missing_line, push_counts, push_line, stop_line};
+use crate::lines::{missing_line, push_counts, push_line, stop_line, wild_line};
 use std::alloc::{AllocError, Global};
 use tam_msgs::{Counts, Stop};
+use tl0_machine::Wild;
 
 /// Whether a result of that place was printed.
 pub fn is_printed(printed: &[(u32, u32)], place: u32) -> bool
@@ -77,6 +79,21 @@ pub fn stopped_lines(alloc: Global, stop: Stop, counts: Counts) -> Result<Vec<Ve
 {
     let mut lines = Vec::new(alloc);
     push_line(&mut lines, stop_line(alloc, stop)?)?;
+    push_counts(alloc, &mut lines, counts)?;
+    Ok(lines)
+}
+
+/// The lines behind the results of a run that is wild.
+pub fn wild_lines(
+    alloc: Global,
+    what: Wild,
+    number: u32,
+    counts: Counts,
+) -> Result<Vec<Vec<u8>>, AllocError>
+    ensures value { IfOk result (λ lines. texts_of lines.items ≡ line (end_text (Runs.Wild (cause_of what) number)) ∷ count_lines counts.events counts.activations counts.cells) }
+{
+    let mut lines = Vec::new(alloc);
+    push_line(&mut lines, wild_line(alloc, what, number)?)?;
     push_counts(alloc, &mut lines, counts)?;
     Ok(lines)
 }

@@ -4,12 +4,14 @@ ghost use Rattle.std.specs.Fmt.{decimal};
 ghost use Rattle.tam_word.specs.Words.{signed_text};
 ghost use Rattle.tam_msgs.specs.Runs.{line, result_line, site_text, end_text, missing_line, count_lines};
 ghost use Rattle.tam_msgs.specs.Runs as End;
+ghost use Rattle.tl0_machine.specs.ThreadStates.{cause_of};
 ghost use Rattle.tam_run.specs.Ends.{end_of_stop};
 ghost use Rattle.tam_run.specs.LineLists.{texts_of};
 
 use std::alloc::{AllocError, Global};
 use tam_msgs::{Counts, Stop};
 use tam_word::{print_number, print_word};
+use tl0_machine::Wild;
 
 // A site is this times the number of a code, plus the number of a node.
 const SITES_OF_CODE: u32 = 1024;
@@ -119,6 +121,20 @@ pub fn stop_line(alloc: Global, stop: Stop) -> Result<Vec<u8>, AllocError>
         Stop::CellsFull { used, len } => cells_full_line(alloc, used, len),
         Stop::BudgetSpent { events } => number_line(alloc, b"budget spent ", events),
         Stop::NoMemory => Ok(Vec::new(alloc)),
+    }
+}
+
+/// The line of a run that is wild.
+pub fn wild_line(alloc: Global, what: Wild, number: u32) -> Result<Vec<u8>, AllocError>
+    ensures value { IfOk result (λ made. made.items ≡ line (end_text (End.Wild (cause_of what) number))) }
+{
+    match what {
+        Wild::Frame => number_line(alloc, b"wild frame ", number),
+        Wild::Inlet => number_line(alloc, b"wild inlet ", number),
+        Wild::Thread => number_line(alloc, b"wild thread ", number),
+        Wild::Array => number_line(alloc, b"wild array ", number),
+        Wild::Place => number_line(alloc, b"wild result ", number),
+        Wild::Skip => number_line(alloc, b"wild skip ", number),
     }
 }
 

@@ -1,4 +1,4 @@
-use Rattle.std.proofs.Common.{◌≡◌, ◌≤◌, ◌++◌, List, [], ◌∷◌, length, sym, ap, ap₂, ◌∙◌, arith}
+use Rattle.std.proofs.Common.{◌≤◌, ◌++◌, List, [], ◌∷◌, length, sym, ap, ap₂, ◌∙◌, arith}
 use Rattle.tam_graph.specs.Graphs.{code_of}
 use Rattle.tam_split.specs.Blocks.{block_graph}
 use Rattle.tam_split.specs.Partitions.{Parts, partition_of}

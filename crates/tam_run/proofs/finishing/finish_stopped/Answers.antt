@@ -1,8 +1,8 @@
-use Rattle.std.proofs.Common.{◌≡◌, ◌∷◌, sym, subst}
+use Rattle.std.proofs.Common.{◌≡◌, sym, subst}
 use Rattle.std.specs.Prelude.{IfOk}
-use Rattle.tam_msgs.specs.Runs.{last_lines, line, end_text, count_lines, joined}
+use Rattle.tam_msgs.specs.Runs.{last_lines, count_lines}
 use Rattle.tam_run.specs.LineLists.{texts_of}
-use Rattle.tam_run.specs.Writing.{told_of, CountsRun}
+use Rattle.tam_run.specs.Writing.{told_of}
 use Rattle.tam_run.proofs.LastLines.{lines-written, lines-broken, finish-broken, stop-lines, lines-of_stop, stop-finished, count-broken}
 use Rattle.tam_run.proofs.finishing.finish_stopped.Goals as goal
 

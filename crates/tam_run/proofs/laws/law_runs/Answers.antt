@@ -1,5 +1,12 @@
 use Rattle.tam_run.proofs.laws.law_runs.Goals as goal
-use Rattle.tam_run.proofs.QuietRuns.{runs_are-borne, runs_are-right, room_is-quiet, quiet_runs-agree, no_result-is_missing}
+use Rattle.tam_run.proofs.QuietRuns.{runs_are-borne, runs_are-right, room_is-quiet, live_room-is-quiet, quiet_runs-agree, no_result-is_missing}
 
 pub returns : goal.returns
-returns c = record { borne = runs_are-borne; right = runs_are-right; room = room_is-quiet; agree = quiet_runs-agree; not_missing = no_result-is_missing }
+returns c = record {
+  borne = runs_are-borne c.law_threads.ensures.borne;
+  right = runs_are-right;
+  room = room_is-quiet;
+  live = live_room-is-quiet c.law_quiet.ensures.quiet;
+  agree = quiet_runs-agree;
+  not_missing = no_result-is_missing;
+}

@@ -1,5 +1,4 @@
-use Rattle.std.proofs.Common.{◌≡◌, ◌++◌, ◌∷◌, [], List, ℕ, append_assoc, sym, ◌∙◌, ap}
-use Rattle.tam_run.specs.LineLists.{texts_of}
+use Rattle.std.proofs.Common.{append_assoc}
 use Rattle.tam_run.proofs.lines.push_counts.Goals as goal
 
 pub returns : goal.returns

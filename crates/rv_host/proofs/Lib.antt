@@ -1,0 +1,11 @@
+pub mod Times
+pub mod Numbering
+pub mod Ways
+pub mod Counting
+pub mod Arguments
+pub mod Printing
+pub mod Onward
+pub mod Choosing
+pub mod Beginning
+pub mod Polls
+pub mod Words

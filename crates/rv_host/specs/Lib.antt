@@ -1,0 +1,3 @@
+pub mod LiveFrames
+pub mod HostStates
+pub mod HostEvents

@@ -14,7 +14,8 @@ use Rattle.tam_input.specs.Refusing.{IsOrder, from_words, from_file, Refuses, us
 use Rattle.tam_input.specs.Refusing.{text_file, text_of, bytes_of, most_bytes, most_order_bytes, refusal_ending, refusal_line, read_fault_line}
 use Rattle.tam_input.specs.Inputs.{Request, request_of, Names}
 use Rattle.tam.specs.Answers.{Answer, AnswerTo, refused, answered, wanted as out}
-use Rattle.tam.specs.Headline.{AsksText, ReadFailed}
+use Rattle.tam.specs.Asks.{AsksText}
+use Rattle.tam.specs.Headline.{ReadFailed}
 
 -- a job is no fault
 not-both : (job : JobParts) (cause : UsageCause) → Job job ≡ Usage cause → ⊥

@@ -12,7 +12,11 @@ use Rattle.tam_input.specs.declared.refusal.Refusal.TheVariants as refusal
 use Rattle.tam_input.specs.Told.{Told}
 use Rattle.tam_input.specs.Refusing.{refusal_ending, refusal_line, read_fault_line}
 use Rattle.tam_input.specs.Inputs.{Request, KeepsNamed, IsFault, ReadsOut, Names}
-use Rattle.tam.specs.Answers.{AnswerTo, not_graph, not_accepted, listed, wrong_count, ran, made, not_assembled, assembled, wanted}
+use Rattle.tam.specs.GraphAnswers.{not_graph, not_accepted, listed, wrong_count}
+use Rattle.tam.specs.CodeAnswers.{not_code, not_checked}
+use Rattle.tam.specs.CodeAnswers as code
+use Rattle.tam.specs.Due.{IsDue, of_graph, of_assembly, of_code, assembled, not_assembled}
+use Rattle.tam.specs.Answers.{AnswerTo, due, ran, code_ran, made, wanted}
 use Rattle.tam.specs.SaidRuns.{SaysRun, whole_run, run_out}
 use Rattle.tam.specs.MadeRuns.{levels, made_report, SaysLines, all_lines, first_lines, SaysMade, of_graph, no_graph}
 use Rattle.tam.specs.Headline.{IsDone, IsSaid, KeepsFiles, has_answered}
@@ -36,16 +40,24 @@ made-unread shape n end text (of_graph {g = g} reads accepted says) =
     lines-unread _ _ end text (not-of-levels ReadFault (λ e. absurd (cc)) (made_report shape n g) (λ level. not-unread _ _) levels) says
 made-unread shape n end text no_graph = λ z. absurd (cc)
 
+-- nor is what is due
+due-unread : (ask : Request) (bytes : List ℕ) (end : Ending) (text : List ℕ) → IsDue ask bytes end text → end ≢ ReadFault
+due-unread ask bytes end text (of_graph m (not_graph e)) z = absurd (cc)
+due-unread ask bytes end text (of_graph m (not_accepted r e)) z = absurd (cc)
+due-unread ask bytes end text (of_graph m (listed s e)) z = absurd (cc)
+due-unread ask bytes end text (of_graph m (wrong_count l s d)) z = absurd (cc)
+due-unread ask bytes end text (of_assembly m (assembled r)) z = absurd (cc)
+due-unread ask bytes end text (of_assembly m (not_assembled e)) z = absurd (cc)
+due-unread ask bytes end text (of_code m (not_code e)) z = absurd (cc)
+due-unread ask bytes end text (of_code m (not_checked r e)) z = absurd (cc)
+due-unread ask bytes end text (of_code m (code.wrong_count s d)) z = absurd (cc)
+
 -- an answer isn't a read fault
 no-fault : (ask : Request) (bytes : List ℕ) (end : Ending) (text : List ℕ) → AnswerTo ask bytes end text → end ≢ ReadFault
-no-fault ask bytes end text (not_graph m e) z = absurd (cc)
-no-fault ask bytes end text (not_accepted m r e) z = absurd (cc)
-no-fault ask bytes end text (listed s e) z = absurd (cc)
-no-fault ask bytes end text (wrong_count m s d) z = absurd (cc)
-no-fault ask bytes end text (ran {g = g} a says) z = absurd (run-unread _ end text says z)
+no-fault ask bytes end text (due d) z = absurd (due-unread ask bytes end text d z)
+no-fault ask bytes end text (ran a says) z = absurd (run-unread _ end text says z)
+no-fault ask bytes end text (code_ran a says) z = absurd (run-unread _ end text says z)
 no-fault ask bytes end text (made {shape = s} m is says) z = absurd (made-unread s ask.count end text says z)
-no-fault ask bytes end text (not_assembled m e) z = absurd (cc)
-no-fault ask bytes end text (assembled m r) z = absurd (cc)
 no-fault ask bytes end text wanted z = absurd (cc)
 
 -- a read fault isn't a write fault

@@ -13,7 +13,7 @@ use Rattle.tam_msgs.specs.Runs.{joined}
 use Rattle.tam_split.specs.GraphPartitions.{Partitions}
 use Rattle.tam_flow.specs.BorneOut.{IsBorneOut}
 use Rattle.tam_run.specs.declared.level.Level.{Level}
-use Rattle.tam_run.specs.RightRuns.{RunsAreBorneOut, RunsAreRight, RoomIsQuiet}
+use Rattle.tam_run.specs.RightRuns.{RunsAreBorneOut, RunsAreRight, RoomIsQuiet, LiveRoomIsQuiet}
 use Rattle.tam_words.specs.declared.mode.Mode.{Mode}
 use Rattle.tam_words.specs.declared.mode.Mode.TheVariants as mode
 use Rattle.tam_words.specs.declared.usage_cause.UsageCause.{UsageCause}
@@ -29,26 +29,29 @@ use Rattle.tam_input.specs.Refusing.{Refuses, usage, order_failed, long_order, n
 use Rattle.tam_input.specs.Refusing.{refusal_ending, refusal_line}
 use Rattle.tam_input.specs.Inputs.{Request}
 use Rattle.tam.specs.MadeRuns.{argument_of, levels, made_report, made_lines, made_ending, SaysLines, all_lines, first_lines, SaysMade, of_graph, no_graph}
-use Rattle.tam.specs.Answers.{Answer, AnswerTo, refused, answered, not_graph, not_accepted, listed, wrong_count, ran, made, not_assembled, assembled, wanted as out}
-use Rattle.tam.specs.Answers.{reads_graph, listing}
+use Rattle.tam.specs.Due.{IsDue, of_graph, of_assembly, of_code}
+use Rattle.tam.specs.Answers.{Answer, AnswerTo, refused, answered, due, ran, code_ran, made, wanted as out}
 use Rattle.tam.specs.RightMade.{AsksMade, LinesOut, TookLines, IsRightMade}
 use Rattle.tam.specs.Headline.{IsDone}
 use Rattle.tam.proofs.Endings.{broke-or}
+use Rattle.tam.proofs.Modes.{level-other, reads-other}
 use Rattle.tam.proofs.Saying.{done-more}
 use Rattle.tam.proofs.Running.{not-broken, not-wanting}
 use Rattle.tam.proofs.SaidLines.{not-of-levels}
 use Rattle.tam.proofs.MadeArguments.{made-arguments, usual-in-range}
-use Rattle.tam.proofs.Telling.{reads-once}
+use Rattle.tam.proofs.Spelling.{reads-once}
 
 -- one mode makes its input
 makes-is : (m : Mode) → makes m ≡ true → m ≡ mode.Make
 makes-is mode.Graph e = absurd (true≢false (sym e))
+makes-is mode.Tl0 e = absurd (true≢false (sym e))
 makes-is mode.Check e = absurd (true≢false (sym e))
 makes-is mode.EmitDg e = absurd (true≢false (sym e))
 makes-is mode.Sets e = absurd (true≢false (sym e))
 makes-is mode.Parts e = absurd (true≢false (sym e))
 makes-is mode.EmitTl0 e = absurd (true≢false (sym e))
 makes-is mode.Assemble e = absurd (true≢false (sym e))
+makes-is mode.ExecTl0 e = absurd (true≢false (sym e))
 makes-is mode.Make e = refl
 
 -- it is no other mode
@@ -130,18 +133,20 @@ module _ (words : List (List ℕ)) (contents : Contents) (before now : Told) (sh
   early r (too_long {job = j} {file = f} e o is more ends) = absurd (no-text j e f is)
   early r (wanted k few ends) = no_graph
 
+  -- nothing is due
+  none-due : (ask : Request) (bytes : List ℕ) → ask.mode ≡ mode.Make → (end : Ending) (text : List ℕ) → IsDue ask bytes end text → ⊥
+  none-due ask bytes m end text (of_graph reads d) = reads-other ask.mode mode.Make reads m refl
+  none-due ask bytes m end text (of_assembly assembles d) = not-other ask.mode mode.Assemble m assembles refl
+  none-due ask bytes m end text (of_code runs-code d) = not-other ask.mode mode.ExecTl0 m runs-code refl
+
   -- and then what is said of the large input
   of-request : (ask : Request) (bytes : List ℕ) → ask.mode ≡ mode.Make → ask.shape ≡ Some shape → ask.count ≡ n → (end : Ending) (text : List ℕ)
       → AnswerTo ask bytes end text → SaysMade shape n end text
-  of-request ask bytes m s c end text (not_graph reads e) = absurd (true≢false (sym reads ∙ ap reads_graph m))
-  of-request ask bytes m s c end text (not_accepted reads r e) = absurd (true≢false (sym reads ∙ ap reads_graph m))
-  of-request ask bytes m s c end text (listed {g = g} {text = t} spelled e) = absurd (none-some t (sym (ap (λ k. listing k g) m) ∙ e))
-  of-request ask bytes m s c end text (wrong_count graph spelled differ) = absurd (not-other ask.mode mode.Graph m graph refl)
-  of-request ask bytes m s c end text (ran a says) = absurd (not-other ask.mode mode.Graph m a.mode refl)
+  of-request ask bytes m s c end text (due d) = absurd (none-due ask bytes m end text d)
+  of-request ask bytes m s c end text (ran {level = l} a says) = absurd (level-other ask.mode mode.Make l a.mode m refl)
+  of-request ask bytes m s c end text (code_ran a says) = absurd (not-other ask.mode mode.ExecTl0 m a.mode refl)
   of-request ask bytes m s c end text (made {shape = k} makes-it is says) =
       subst (λ h. SaysMade h n end text) (shape-once k shape (sym is ∙ s)) (subst (λ i. SaysMade k i end text) c says)
-  of-request ask bytes m s c end text (not_assembled assembles e) = absurd (not-other ask.mode mode.Assemble m assembles refl)
-  of-request ask bytes m s c end text (assembled assembles r) = absurd (not-other ask.mode mode.Assemble m assembles refl)
   of-request ask bytes m s c end text out = no_graph
 
   -- so whatever is answered is said of it
@@ -155,7 +160,8 @@ module _ (words : List (List ℕ)) (contents : Contents) (before now : Told) (sh
 
 -- ---- the runs
 
-module _ (law : MadeTextsAreAccepted) (borne : RunsAreBorneOut) (right : RunsAreRight) (room : RoomIsQuiet) (shape : Shape) (n : ℕ) (count : IsCount shape n) where
+module _ (law : MadeTextsAreAccepted) (borne : RunsAreBorneOut) (right : RunsAreRight) (room : RoomIsQuiet) (live : LiveRoomIsQuiet) (shape : Shape) (n : ℕ)
+    (count : IsCount shape n) where
   abbrev graph : Graph
   graph = (law shape n count).0
 
@@ -181,6 +187,8 @@ module _ (law : MadeTextsAreAccepted) (borne : RunsAreBorneOut) (right : RunsAre
     spelled = record { reads = spelled.0; accepted = spelled.1 };
     right = λ level. let b = out-at level in right graph b.0 (argument_of shape n ∷ []) usual_limits (made_report shape n graph level) b.1;
     complete = λ level. let b = out-at level in room graph b.0 (argument_of shape n ∷ []) usual_limits (made_report shape n graph level) b.1;
+    complete_live = λ level. live level graph (argument_of shape n ∷ []) [] usual_limits
+        (record { accepted = spelled.1; arguments = made-arguments shape n count graph (law shape n count).3; ranges = usual-in-range });
     took = took-lines (made_lines shape n graph) (made_ending shape n graph) end old new faults faults_new
         (not-of-levels NoMemory (λ e. absurd (cc)) (made_report shape n graph) (λ level. not-wanting _ _) levels)
         (not-of-levels WriteFault (λ e. absurd (cc)) (made_report shape n graph) (λ level. not-broken _ _) levels)
@@ -188,10 +196,10 @@ module _ (law : MadeTextsAreAccepted) (borne : RunsAreBorneOut) (right : RunsAre
   }
 
 -- a large input that is asked for is right
-pub right-made : MadeTextsAreAccepted → RunsAreBorneOut → RunsAreRight → RoomIsQuiet → (words : List (List ℕ)) (contents : Contents) (before now : Told)
+pub right-made : MadeTextsAreAccepted → RunsAreBorneOut → RunsAreRight → RoomIsQuiet → LiveRoomIsQuiet → (words : List (List ℕ)) (contents : Contents) (before now : Told)
     (end : Ending) (old new : Option (List ℕ)) (faults faults_new : ℕ) → IsDone (Answer (asked words) contents before now) end old new faults faults_new
     → (shape : Shape) (n : ℕ) → AsksMade (asked words) shape n → IsRightMade shape n end old new
-right-made law borne right room words contents before now end old new faults faults_new done shape n asks =
-    made-right law borne right room shape n (count-fits words contents before now shape n asks) end old new faults faults_new
+right-made law borne right room live words contents before now end old new faults faults_new done shape n asks =
+    made-right law borne right room live shape n (count-fits words contents before now shape n asks) end old new faults faults_new
     (done-more old new faults faults_new (Answer (asked words) contents before now) (SaysMade shape n) end
     (told-made words contents before now shape n asks) done)

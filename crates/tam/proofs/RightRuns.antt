@@ -1,35 +1,45 @@
 -- Runs that are asked for are right, by the law of runs and by what was answered; other inputs are answered.
-use Rattle.std.proofs.Common.{◌≡◌, ◌≢◌, ◌⊎◌, inl, inr, ⊎_elim, ℕ, false, List, [], refl, sym, ◌∙◌, subst, slice_get}
+use Rattle.std.proofs.Common.{◌≡◌, ◌≢◌, ◌⊎◌, inl, inr, ⊎_elim, ℕ, false, List, [], length, refl, sym, ◌∙◌, subst, slice_get}
 use Rattle.std.specs.Prelude.{Option, Some}
 use Rattle.std.specs.Io.KnownBytes.{Appends}
 use Rattle.tam_edge.specs.Whole.{AppendsFront}
-use Rattle.tam_graph.specs.Graphs.{Graph, AreArguments}
+use Rattle.tam_graph.specs.Graphs.{Graph, AreArguments, params_of, code_of as code_in}
+use Rattle.tam_graph.specs.Accepted.{IsAccepted}
 use Rattle.tam_msgs.specs.Messages.{AreLimits}
 use Rattle.tam_msgs.specs.Runs.{Report, text_of}
-use Rattle.tam_split.specs.GraphPartitions.{Partitions}
-use Rattle.tam_flow.specs.BorneOut.{IsBorneOut}
+use Rattle.tam_run.specs.declared.level.Level.{Level}
 use Rattle.tam_run.specs.declared.level.Level.TheVariants as level
-use Rattle.tam_run.specs.RightRuns.{RunsAreBorneOut, RunsAreRight, RoomIsQuiet}
+use Rattle.tam_run.specs.RightRuns.{RunsAreBorneOut, RunsAreRight, RoomIsQuiet, LiveRoomIsQuiet}
 use Rattle.tam_make.specs.MadeGraphs.{MadeTextsAreAccepted}
-use Rattle.tam_words.specs.Names.{runs, makes}
+use Rattle.tam_words.specs.declared.usage_cause.UsageCause.TheVariants.{ArgsCount}
+use Rattle.tam_words.specs.Names.{makes}
 use Rattle.tam_words.specs.Jobs.{Asked, asked}
 use Rattle.tam_words.proofs.JobParts.{asked-right}
 use Rattle.tam_input.specs.declared.ending.Ending.{Ending}
-use Rattle.tam_input.specs.declared.ending.Ending.TheVariants.{ReadFault, WriteFault, NoMemory}
+use Rattle.tam_input.specs.declared.ending.Ending.TheVariants.{ReadFault, WriteFault, NoMemory, Usage}
 use Rattle.tam_input.specs.Endings.{code_of}
 use Rattle.tam_input.specs.Told.{Told, Contents, Agrees}
-use Rattle.tam_input.specs.Refusing.{read_fault_line}
+use Rattle.tam_input.specs.Refusing.{usage_line, read_fault_line}
 use Rattle.tam_input.specs.Inputs.{Request}
 use Rattle.tam.specs.SaidRuns.{ending_of, SaysRun, whole_run, run_out}
-use Rattle.tam.specs.Answers.{Answer, AnswerTo, run_of}
-use Rattle.tam.specs.Listed.{IsDue}
-use Rattle.tam.specs.Headline.{AsksText, AsksRun, IsDone, IsAnswered, IsRightCall, KeepsFiles, RanOut, ReadFailed, TookReport}
+use Rattle.tl0_code.specs.CodeTexts.{program_text}
+use Rattle.tl0_keep.specs.Compiled.{compiled}
+use Rattle.tl0_keep.specs.ThreadLaws.{CodeIsChecked}
+use Rattle.tam_fits.specs.ShortTexts.{TextsByPairsAreShort}
+use Rattle.tam.specs.GraphAnswers.{run_of}
+use Rattle.tam.specs.CodeAnswers.{code_run_of}
+use Rattle.tam.specs.Due.{IsDue, HasRun}
+use Rattle.tam.specs.Answers.{Answer, AnswerTo}
+use Rattle.tam.specs.Asks.{AsksText, AsksEmitted}
+use Rattle.tam.specs.Headline.{IsRunOfGraph, IsDone, IsAnswered, IsRightRun, IsRightCall, KeepsFiles, RanOut, ReadFailed}
+use Rattle.tam.specs.Headline.{TookReport}
 use Rattle.tam.proofs.Endings.{broke-or}
 use Rattle.tam.proofs.Running.{not-broken, not-unread, not-wanting}
 use Rattle.tam.proofs.Asking.{told-input}
-use Rattle.tam.proofs.Telling.{told-of}
+use Rattle.tam.proofs.Telling.{told-of, told-of-code}
+use Rattle.tam.proofs.Emitted.{emitted-text, emitted-code, emitted-count, emitted-makes}
 use Rattle.tam.proofs.RightMade.{right-made}
-use Rattle.tam.proofs.Dues.{answer-due, due-once}
+use Rattle.tam.proofs.Dues.{answer-due, due-once, run-not-due}
 
 -- a read fault isn't want of memory
 unread-wanting : ReadFault ≡ NoMemory → ⊥
@@ -45,12 +55,10 @@ wanting-broken e = cc
 
 module _ (words : Asked) (contents : Contents) (before now : Told) (end : Ending) (old new : Option (List ℕ)) (faults faults_new : ℕ)
     (done : IsDone (Answer words contents before now) end old new faults faults_new) where
-  module _ (g : Graph) (ask : Request) (asks : AsksRun words contents g ask) where
+  module _ (ask : Request) (bytes : List ℕ) (input : AsksText words contents ask bytes) (report : Report)
+      (told : (e : Ending) (text : List ℕ) → AnswerTo ask bytes e text → SaysRun report e text) where
     abbrev Failed : Type 0
     Failed = ReadFailed words before now
-
-    abbrev report : Report
-    report = run_of ask g
 
     -- by the ending, what was written of a run
     abbrev Wrote : Type 0
@@ -59,32 +67,32 @@ module _ (words : Asked) (contents : Contents) (before now : Told) (end : Ending
 
     -- where no write failed
     written : end ≢ WriteFault → Wrote
-    written n = let s = done.said n in go s.0 (told-input words contents before now ask asks.bytes asks.input end s.0 s.1) s.2
+    written n = let s = done.said n in go s.0 (told-input words contents before now ask bytes input end s.0 s.1) s.2
       where
         of-run : (e : Ending) (text : List ℕ) → SaysRun report e text → Appends old new text
             → ((e ≡ ending_of report) × Appends old new (text_of report)) ⊎ ((e ≡ NoMemory) × RanOut (Appends old new) report)
         of-run e text whole_run a = inl (refl, a)
         of-run e text (run_out front rest is) a = inr (refl, (front, rest, is, a))
 
-        go : (text : List ℕ) → AnswerTo ask asks.bytes end text ⊎ ((end ≡ ReadFault) × (text ≡ read_fault_line) × ReadFailed words before now)
+        go : (text : List ℕ) → AnswerTo ask bytes end text ⊎ ((end ≡ ReadFault) × (text ≡ read_fault_line) × ReadFailed words before now)
             → Appends old new text → Wrote
         go text (inr f) a = inr (inl (f.0, (f.2, subst (Appends old new) f.1 a)))
-        go text (inl t) a = ⊎_elim (λ x. inl x) (λ x. inr (inr x)) (of-run end text (told-of ask asks.bytes g asks.graph end text t) a)
+        go text (inl t) a = ⊎_elim (λ x. inl x) (λ x. inr (inr x)) (of-run end text (told end text t) a)
 
     -- and of one that broke off
     fronts : end ≡ WriteFault → AppendsFront old new (text_of report) ⊎ (RanOut (AppendsFront old new) report ⊎ (Failed × AppendsFront old new read_fault_line))
-    fronts e = let b = done.broken e in go b.0 b.1 (told-input words contents before now ask asks.bytes asks.input b.0 b.1 b.2) b.3
+    fronts e = let b = done.broken e in go b.0 b.1 (told-input words contents before now ask bytes input b.0 b.1 b.2) b.3
       where
         of-run : (m : Ending) (text : List ℕ) → SaysRun report m text → AppendsFront old new text
             → AppendsFront old new (text_of report) ⊎ (RanOut (AppendsFront old new) report ⊎ (Failed × AppendsFront old new read_fault_line))
         of-run m text whole_run a = inl a
         of-run m text (run_out front rest is) a = inr (inl (front, rest, is, a))
 
-        go : (m : Ending) (text : List ℕ) → AnswerTo ask asks.bytes m text ⊎ ((m ≡ ReadFault) × (text ≡ read_fault_line) × ReadFailed words before now)
+        go : (m : Ending) (text : List ℕ) → AnswerTo ask bytes m text ⊎ ((m ≡ ReadFault) × (text ≡ read_fault_line) × ReadFailed words before now)
             → AppendsFront old new text
             → AppendsFront old new (text_of report) ⊎ (RanOut (AppendsFront old new) report ⊎ (Failed × AppendsFront old new read_fault_line))
         go m text (inr f) a = inr (inr (f.2, subst (AppendsFront old new) f.1 a))
-        go m text (inl t) a = of-run m text (told-of ask asks.bytes g asks.graph m text t) a
+        go m text (inl t) a = of-run m text (told m text t) a
 
     -- the sink took the report
     took : TookReport report Failed end old new
@@ -104,54 +112,97 @@ module _ (words : Asked) (contents : Contents) (before now : Told) (end : Ending
         by-whole e (inr (inl b)) = absurd (not-unread _ _ (sym e ∙ b.0))
         by-whole e (inr (inr c)) = absurd (not-wanting _ _ (sym e ∙ c.0))
 
-  module _ (ask : Request) (bytes : List ℕ) (asks : AsksText words contents ask bytes) (no-run : runs ask.mode ≡ false) (read : makes ask.mode ≡ false) where
-    -- what was written is what is due
-    written-due : end ≢ WriteFault → ((text : List ℕ) × IsDue ask bytes end text × Appends old new text) ⊎ ((end ≡ ReadFault) ⊎ (end ≡ NoMemory))
+  module _ (ask : Request) (bytes : List ℕ) (asks : AsksText words contents ask bytes) (read : makes ask.mode ≡ false) where
+    -- by the ending, what was written of an input
+    abbrev WroteOf : Type 0
+    WroteOf = ((text : List ℕ) × IsDue ask bytes end text × Appends old new text) ⊎ (HasRun ask bytes ⊎ ((end ≡ ReadFault) ⊎ (end ≡ NoMemory)))
+
+    -- what was written is what is due, or a run is asked for
+    written-due : end ≢ WriteFault → WroteOf
     written-due n = let s = done.said n in go s.0 (told-input words contents before now ask bytes asks end s.0 s.1) s.2
       where
         go : (text : List ℕ) → AnswerTo ask bytes end text ⊎ ((end ≡ ReadFault) × (text ≡ read_fault_line) × ReadFailed words before now)
-            → Appends old new text → ((text : List ℕ) × IsDue ask bytes end text × Appends old new text) ⊎ ((end ≡ ReadFault) ⊎ (end ≡ NoMemory))
-        go text (inr f) a = inr (inl f.0)
-        go text (inl t) a = ⊎_elim (λ d. inl (text, d, a)) (λ m. inr (inr m)) (answer-due ask bytes no-run read end text t)
+            → Appends old new text → WroteOf
+        go text (inr f) a = inr (inr (inl f.0))
+        go text (inl t) a =
+            ⊎_elim (λ d. inl (text, d, a)) (λ r. inr (⊎_elim (λ h. inl h) (λ m. inr (inr m)) r)) (answer-due ask bytes read end text t)
 
     -- so the input is answered
     input-answered : IsAnswered ask bytes end old new
     input-answered = record {
       given = λ meant text d. ⊎_elim (λ e. inr (inr (inl e))) (λ n. ⊎_elim
-          (λ w. let same = due-once ask bytes no-run read end meant w.0 text w.1 d in inl (same.0, subst (Appends old new) same.1 w.2))
-          (⊎_elim (λ f. inr (inl f)) (λ m. inr (inr (inr m)))) (written-due n)) (broke-or end);
-      no_other = ⊎_elim (λ e. (end, [], inr (inr (inl e)))) (λ n. ⊎_elim (λ w. (end, w.0, inl (refl, w.1)))
-          (⊎_elim (λ f. (end, [], inr (inl f))) (λ m. (end, [], inr (inr (inr m))))) (written-due n)) (broke-or end);
+          (λ w. let same = due-once ask bytes end meant w.0 text w.1 d in inl (same.0, subst (Appends old new) same.1 w.2))
+          (⊎_elim (λ h. absurd (run-not-due ask bytes h meant text d)) (⊎_elim (λ f. inr (inl f)) (λ m. inr (inr (inr m))))) (written-due n)) (broke-or end);
+      no_other = ⊎_elim (λ e. inr (end, [], inr (inr (inl e)))) (λ n. ⊎_elim (λ w. inr (end, w.0, inl (refl, w.1)))
+          (⊎_elim (λ h. inl h) (⊎_elim (λ f. inr (end, [], inr (inl f))) (λ m. inr (end, [], inr (inr (inr m)))))) (written-due n)) (broke-or end);
     }
 
+-- the laws of runs, of large inputs and of thread code
+pub record Laws : Type 0 where
+  pub made : MadeTextsAreAccepted
+  pub borne : RunsAreBorneOut
+  pub right : RunsAreRight
+  pub room : RoomIsQuiet
+  pub live : LiveRoomIsQuiet
+  pub checked : CodeIsChecked
+  pub short : TextsByPairsAreShort
+
 -- what the call makes sure of, by what was answered and what it leaves of the files
-pub right-call : MadeTextsAreAccepted → RunsAreBorneOut → RunsAreRight → RoomIsQuiet → (words : List (List ℕ)) (contents : Contents) (before now : Told) (end : Ending) (old new : Option (List ℕ))
+pub right-call : Laws → (words : List (List ℕ)) (contents : Contents) (before now : Told) (end : Ending) (old new : Option (List ℕ))
     (faults faults_new : ℕ) → Agrees before.left contents → IsDone (Answer (asked words) contents before now) end old new faults faults_new
     → KeepsFiles (asked words) end before now old new → IsRightCall (asked words) before now (code_of end) old new faults faults_new
-right-call law borne right room words contents before now end old new faults faults_new agrees done files = record {
+right-call law words contents before now end old new faults faults_new agrees done files = record {
   contents = contents;
   agrees = agrees;
   end = end;
   code_is = refl;
   done = done;
-  run = λ g ask asks. record {
-    right = let b = out g ask asks in right g b.0 ask.args ask.limits (run_of ask g) b.1;
-    complete = let b = out g ask asks in room g b.0 ask.args ask.limits (run_of ask g) b.1;
-    took = took (asked words) contents before now end old new faults faults_new done g ask asks;
-  };
-  made = right-made law borne right room words contents before now end old new faults faults_new done;
+  run = λ level g ask asks.
+      right-run level g ask asks.graph.spelled.accepted asks.graph.one_each asks.bytes asks.input (told-of ask asks.bytes level g asks.graph);
+  code_run = λ p ask asks. taken ask asks.bytes asks.input (code_run_of ask p) (told-of-code ask asks.bytes p asks.code);
+  emitted = λ g ask asks. run-of-graph g ask asks;
+  made = right-made law.made law.borne law.right law.room law.live words contents before now end old new faults faults_new done;
   answered = input-answered (asked words) contents before now end old new faults faults_new done;
   files = files;
 }
   where
-    arguments : (g : Graph) (ask : Request) → AsksRun (asked words) contents g ask → AreArguments g ask.args
-    arguments g ask asks = record {
-      one_each = asks.graph.one_each;
-      words = λ k w e. (asked-right words asks.input.job asks.input.asked).args_are_words k w (subst (λ q. slice_get q.args k ≡ Some w) asks.input.same e);
+    taken : (ask : Request) (bytes : List ℕ) → AsksText (asked words) contents ask bytes → (report : Report)
+        → ((e : Ending) (text : List ℕ) → AnswerTo ask bytes e text → SaysRun report e text) → TookReport report (ReadFailed (asked words) before now) end old new
+    taken ask bytes input report told = took (asked words) contents before now end old new faults faults_new done ask bytes input report told
+
+    arguments : (g : Graph) (ask : Request) (bytes : List ℕ) → AsksText (asked words) contents ask bytes → length ask.args ≡ params_of (code_in g g.main)
+        → AreArguments g ask.args
+    arguments g ask bytes input one = record {
+      one_each = one;
+      words = λ k w e. (asked-right words input.job input.asked).args_are_words k w (subst (λ q. slice_get q.args k ≡ Some w) input.same e);
     }
 
-    limits : (g : Graph) (ask : Request) → AsksRun (asked words) contents g ask → AreLimits ask.limits
-    limits g ask asks = subst (λ q. AreLimits q.limits) (sym asks.input.same) (asked-right words asks.input.job asks.input.asked).limits_in_range
+    limits : (ask : Request) (bytes : List ℕ) → AsksText (asked words) contents ask bytes → AreLimits ask.limits
+    limits ask bytes input = subst (λ q. AreLimits q.limits) (sym input.same) (asked-right words input.job input.asked).limits_in_range
 
-    out : (g : Graph) (ask : Request) → AsksRun (asked words) contents g ask → (all : Partitions) × IsBorneOut g all ask.args ask.limits (run_of ask g)
-    out g ask asks = borne level.Graph g ask.args ask.order ask.limits asks.graph.spelled.accepted (arguments g ask asks) (limits g ask asks)
+    right-run : (level : Level) (g : Graph) (ask : Request) → IsAccepted g → length ask.args ≡ params_of (code_in g g.main) → (bytes : List ℕ)
+        → AsksText (asked words) contents ask bytes → ((e : Ending) (text : List ℕ) → AnswerTo ask bytes e text → SaysRun (run_of level ask g) e text)
+        → IsRightRun level g ask (ReadFailed (asked words) before now) end old new
+    right-run level g ask accepted one bytes input told =
+        let b = law.borne level g ask.args ask.order ask.limits accepted (arguments g ask bytes input one) (limits ask bytes input) in
+        record {
+          right = law.right g b.0 ask.args ask.limits (run_of level ask g) b.1;
+          complete = law.room g b.0 ask.args ask.limits (run_of level ask g) b.1;
+          complete_live = law.live level g ask.args ask.order ask.limits
+              (record { accepted = accepted; arguments = arguments g ask bytes input one; ranges = limits ask bytes input });
+          took = taken ask bytes input (run_of level ask g) told;
+        }
+
+    run-of-graph : (g : Graph) (ask : Request) → AsksEmitted (asked words) contents g ask → IsRunOfGraph g ask (ReadFailed (asked words) before now) end old new
+    run-of-graph g ask asks =
+        let text = program_text (compiled g) in
+        let input = emitted-text law.checked law.short (asked words) contents g ask asks in
+        record {
+          run = λ one.
+              right-run level.Tl0 g ask asks.accepted one text input
+              (told-of-code ask text (compiled g) (emitted-code law.checked law.short (asked words) contents g ask asks one));
+          wrong_count = λ differ.
+              (input-answered (asked words) contents before now end old new faults faults_new done ask text input
+              (emitted-makes law.checked law.short (asked words) contents g ask asks)).given
+              Usage (usage_line ArgsCount) (emitted-count law.checked law.short (asked words) contents g ask asks differ);
+        }

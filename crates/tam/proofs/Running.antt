@@ -8,11 +8,12 @@ use Rattle.tam_edge.specs.Whole.{AppendsFront}
 use Rattle.tam_graph.specs.Graphs.{Graph, code_of, params_of}
 use Rattle.tam_msgs.specs.declared.stop.Stop.{Stop}
 use Rattle.tam_msgs.specs.declared.stop.Stop.TheVariants.{DoubleWrite, OutOfRange, FramesFull, CellsFull, BudgetSpent, NoMemory}
-use Rattle.tam_msgs.specs.Runs.{Report, End, Quiet, Double_write, Out_of_range, Frames_full, Cells_full, Budget_spent, Wild, Trap, result_line, text_of, missing_of}
+use Rattle.tam_msgs.specs.Runs.{Report, End, Quiet, Double_write, Out_of_range, Frames_full, Cells_full, Budget_spent, Wild, Trap}
+use Rattle.tam_msgs.specs.Runs.{result_line, text_of, missing_of}
 use Rattle.tam_run.specs.Ends.{end_of_stop}
-use Rattle.tam_run.specs.Writing.{WritesStopped, AppendsFirstLines}
+use Rattle.tam_run.specs.Writing.{WritesStopped, AppendsFirstLines, IsWild}
 use Rattle.tam_input.specs.declared.ending.Ending.{Ending}
-use Rattle.tam_input.specs.declared.ending.Ending.TheVariants.{Done, ResultsMissing, ReadFault, WriteFault}
+use Rattle.tam_input.specs.declared.ending.Ending.TheVariants.{Done, ResultsMissing, ReadFault, WriteFault, Broken}
 use Rattle.tam_input.specs.declared.ending.Ending.TheVariants as wants
 use Rattle.tam_input.specs.Refusing.{no_memory_line}
 use Rattle.tam.specs.SaidRuns.{ending_by, ending_of, SaysRun, whole_run, run_out}
@@ -102,6 +103,10 @@ module _ (r : Report) (old new : Option (List ℕ)) (faults faults_new : ℕ) wh
     broken = λ e. (ending_of r, text_of r, whole_run, taken);
     fault = λ e. counted;
   }
+
+  -- a run was wild
+  pub wild-done : Appends old new (text_of r) → IsWild r.how → faults_new ≡ faults → IsDone (SaysRun r) Broken old new faults faults_new
+  wild-done taken (what, n, is) counted = whole-done Broken (ap (λ h. ending_by h (missing_of r.how r.results r.printed)) (sym is)) taken counted
 
   -- memory was wanted in a run, which was said
   pub out-done : (mid : Option (List ℕ)) (faults_mid : ℕ) (end : Ending) → AppendsFirstLines old mid r.printed → faults_mid ≡ faults

@@ -10,6 +10,10 @@ use Rattle.tam_read.specs.declared.cause.ReadCause.TheVariants.{UnknownName, Unk
 use Rattle.tam_graph.specs.declared.check_cause.CheckCause.{CheckCause}
 use Rattle.tam_graph.specs.declared.check_cause.CheckCause.TheVariants.{NoMain, WrongBlock, PlaceTwice, PlaceRange, PlaceMissing, DepthMismatch}
 use Rattle.tam_graph.specs.declared.check_cause.CheckCause.TheVariants.{MainType, Cycle}
+use Rattle.tl0_code.specs.declared.bad_cause.BadCause.{BadCause}
+use Rattle.tl0_code.specs.declared.bad_cause.BadCause.TheVariants as bad
+use Rattle.tl0_text.specs.declared.cause.Cause0.{Cause0}
+use Rattle.tl0_text.specs.declared.cause.Cause0.TheVariants as cause
 use Rattle.rv_asm.specs.declared.asm_error.AsmCause.{AsmCause}
 use Rattle.rv_asm.specs.declared.asm_error.AsmCause.TheVariants as asm
 
@@ -48,6 +52,24 @@ check_cause_name PlaceMissing = codes "PlaceMissing"
 check_cause_name DepthMismatch = codes "DepthMismatch"
 check_cause_name MainType = codes "MainType"
 check_cause_name Cycle = codes "Cycle"
+
+-- a fault of a text of thread code by its name
+abbrev pub code_text_cause_name : Cause0 → List ℕ
+code_text_cause_name cause.BadHead = codes "BadHead"
+code_text_cause_name cause.BadLine = codes "BadLine"
+code_text_cause_name cause.BadNumber = codes "BadNumber"
+code_text_cause_name cause.TooMany = codes "TooMany"
+code_text_cause_name cause.Ended = codes "Ended"
+
+-- a fault of thread code by its name
+abbrev pub code_cause_name : BadCause → List ℕ
+code_cause_name bad.Frame = codes "Frame"
+code_cause_name bad.Main = codes "Main"
+code_cause_name bad.Slot = codes "Slot"
+code_cause_name bad.Thread = codes "Thread"
+code_cause_name bad.Inlet = codes "Inlet"
+code_cause_name bad.Callee = codes "Callee"
+code_cause_name bad.Place = codes "Place"
 
 -- a fault of an assembly text by its name
 abbrev pub asm_cause_name : AsmCause → List ℕ

@@ -1,33 +1,34 @@
 -- What the top call makes sure of, by what is asked and by what is left of the files: its answer, that runs are right, that inputs are answered.
-use Rattle.std.specs.Prelude.{ℕ, ◌≡◌, ◌≢◌, ◌≤◌, ◌⊎◌, Bool, true, false, List, ◌++◌, flat_map, length, map, Option, String}
-use Rattle.std.specs.declared.alloc.Global.{Global}
-use Rattle.std.specs.String.{string_bytes}
+use Rattle.std.specs.Prelude.{ℕ, ◌≡◌, ◌≢◌, ◌⊎◌, Bool, true, false, List, ◌++◌, flat_map, length, Option}
 use Rattle.std.specs.Io.KnownBytes.{Appends}
 use Rattle.tam_edge.specs.Faults.{CountsFault}
 use Rattle.tam_edge.specs.Whole.{AppendsFront}
-use Rattle.tam_graph.specs.Graphs.{Graph}
-use Rattle.tam_msgs.specs.declared.item.Item.{Item}
+use Rattle.tam_graph.specs.Graphs.{Graph, code_of as code_in, params_of}
 use Rattle.tam_make.specs.declared.shape.Shape.{Shape}
 use Rattle.tam_msgs.specs.Runs.{Quiet, Report, result_line, text_of as report_text}
 use Rattle.tam_flow.specs.Headline.{IsRight}
-use Rattle.tam_run.specs.RightRuns.{HasRoom}
-use Rattle.tam_words.specs.Names.{runs, makes}
-use Rattle.tam_words.specs.Jobs.{Asked, Job, JobParts, asked}
+use Rattle.tam_run.specs.declared.level.Level.{Level}
+use Rattle.tam_run.specs.declared.level.Level.TheVariants as level
+use Rattle.tl0_keep.specs.ThreadLaws.{HasRoomAside}
+use Rattle.tam_run.specs.RightRuns.{HasRoom, LiveSuffice}
+use Rattle.tam_words.specs.declared.usage_cause.UsageCause.TheVariants.{ArgsCount}
+use Rattle.tam_words.specs.Names.{makes}
+use Rattle.tam_words.specs.Jobs.{Asked}
 use Rattle.tam_input.specs.declared.ending.Ending.{Ending}
 use Rattle.tam_input.specs.declared.ending.Ending.TheVariants.{Done, Refused, ReadFault, ResultsMissing, DoubleWrite, OutOfRange, FramesFull}
 use Rattle.tam_input.specs.declared.ending.Ending.TheVariants.{CellsFull, BudgetSpent, WriteFault, NoMemory, Broken, NoWords, Usage}
 use Rattle.tam_input.specs.Endings.{code_of}
 use Rattle.tam_input.specs.Told.{Told, HasFailed, Contents, Agrees}
-use Rattle.tam_input.specs.Refusing.{IsOrder, text_of, most_bytes, read_fault_line, no_memory_line}
-use Rattle.tam_input.specs.Inputs.{Request, request_of, IsReadOut, Names}
+use Rattle.tam_input.specs.Refusing.{usage_line, read_fault_line, no_memory_line}
+use Rattle.tam_input.specs.Inputs.{Request, IsReadOut, Names}
 use Rattle.tam.specs.SaidRuns.{ending_of}
 use Rattle.tam.specs.RightMade.{AsksMade, IsRightMade}
-use Rattle.tam.specs.Answers.{Answer, AsksGraph, run_of}
-use Rattle.tam.specs.Listed.{IsDue}
-
--- what the words ask for
-abbrev pub ask_of : List (String Global) → Asked
-ask_of words = asked (map string_bytes words)
+use Rattle.tl0_code.specs.ThreadCode.{Program}
+use Rattle.tam.specs.GraphAnswers.{run_of}
+use Rattle.tam.specs.CodeAnswers.{code_run_of}
+use Rattle.tam.specs.Due.{IsDue, HasRun}
+use Rattle.tam.specs.Answers.{Answer}
+use Rattle.tam.specs.Asks.{AsksText, AsksRun, AsksCodeRun, AsksEmitted}
 
 -- ---- an answer was written
 
@@ -77,24 +78,6 @@ pub record KeepsFiles (ask : Asked) (end : Ending) (before now : Told) (old new 
   pub fault_told : (file : List ℕ) → now.faults file ≢ before.faults file → (end ≡ ReadFault) ⊎ ((end ≡ WriteFault) × AppendsFront old new read_fault_line)
   pub read_out : (file : List ℕ) → Names ask file → has_answered end ≡ true → IsReadOut (before.left file) (now.left file)
 
--- ---- what is asked for
-
--- an input is asked for: a job, with an order list and with these bytes as its text, neither of them too long
-pub record AsksText (words : Asked) (contents : Contents) (ask : Request) (bytes : List ℕ) : Type 0 where
-  pub job : JobParts
-  pub order : List Item
-  pub asked : words ≡ Job job
-  pub same : ask ≡ request_of job order
-  pub ordered : IsOrder job contents order
-  pub text : text_of job contents ≡ bytes
-  pub few : length bytes ≤ most_bytes job.mode
-
--- a run of the graph is asked for: on these arguments, under this order list and within these limits
-pub record AsksRun (words : Asked) (contents : Contents) (g : Graph) (ask : Request) : Type 0 where
-  pub bytes : List ℕ
-  pub input : AsksText words contents ask bytes
-  pub graph : AsksGraph ask bytes g
-
 -- ---- runs
 
 -- the lines of first results of a run, and then that memory was wanted, were taken in some way
@@ -110,38 +93,49 @@ pub record TookReport (r : Report) (Failed : Type 0) (end : Ending) (old new : O
   pub front : end ≡ WriteFault → AppendsFront old new (report_text r) ⊎ (RanOut (AppendsFront old new) r ⊎ (Failed × AppendsFront old new read_fault_line))
   pub no_other : (end ≡ ending_of r) ⊎ ((end ≡ ReadFault) ⊎ ((end ≡ WriteFault) ⊎ (end ≡ NoMemory)))
 
--- Of a run that is asked for: each line is a result of the firing rules, no place has two lines, a quiet run has exactly the results, a result is
+-- Of a run of a graph that is asked for: each line is a result of the firing rules, no place has two lines, a quiet run has exactly the results, a result is
 -- missing exactly where no number of unfoldings gives it, and every other end has its cause in the rules. Where the limits leave room for what the rules
--- give, the run is quiet. And the sink took its report.
-pub record IsRightRun (g : Graph) (ask : Request) (Failed : Type 0) (end : Ending) (old new : Option (List ℕ)) : Type 0 where
-  pub right : IsRight g ask.args ask.limits (run_of ask g)
-  pub complete : HasRoom g ask.args ask.limits → (run_of ask g).how ≡ Quiet
-  pub took : TookReport (run_of ask g) Failed end old new
-
--- ---- inputs that aren't run
+-- give, the run is quiet, also where they have room for the live activations alone. And the sink took its report.
+pub record IsRightRun (level : Level) (g : Graph) (ask : Request) (Failed : Type 0) (end : Ending) (old new : Option (List ℕ)) : Type 0 where
+  pub right : IsRight g ask.args ask.limits (run_of level ask g)
+  pub complete : HasRoom g ask.args ask.limits → (run_of level ask g).how ≡ Quiet
+  pub complete_live : HasRoomAside g ask.args ask.limits → LiveSuffice level g ask.args ask.order ask.limits → (run_of level ask g).how ≡ Quiet
+  pub took : TookReport (run_of level ask g) Failed end old new
 
 -- this text was written under this ending, or a read failed, or a write, or memory was wanted
 abbrev pub IsGiven : Ending → List ℕ → Ending → Option (List ℕ) → Option (List ℕ) → Type 0
 IsGiven meant text end old new = ((end ≡ meant) × Appends old new text) ⊎ ((end ≡ ReadFault) ⊎ ((end ≡ WriteFault) ⊎ (end ≡ NoMemory)))
 
--- Of an input in a mode that reads it and makes no run: something is due, its listing where it is accepted and its first fault where it isn't, and that
--- is given.
+-- Of thread code that is what `emit-tl0` writes of a graph: its run is that of the graph at the level of threads, and a wrong count of arguments is told.
+pub record IsRunOfGraph (g : Graph) (ask : Request) (Failed : Type 0) (end : Ending) (old new : Option (List ℕ)) : Type 0 where
+  pub run : length ask.args ≡ params_of (code_in g g.main) → IsRightRun level.Tl0 g ask Failed end old new
+  pub wrong_count : length ask.args ≢ params_of (code_in g g.main) → IsGiven Usage (usage_line ArgsCount) end old new
+
+-- ---- inputs that are read
+
+-- Of an input that is read: where something is due to it, its listing where it is accepted and its first fault where it isn't, that is given. Nothing is due
+-- where a run of it is asked for.
 pub record IsAnswered (ask : Request) (bytes : List ℕ) (end : Ending) (old new : Option (List ℕ)) : Type 0 where
   pub given : (meant : Ending) (text : List ℕ) → IsDue ask bytes meant text → IsGiven meant text end old new
-  pub no_other : (meant : Ending) × (text : List ℕ) × (((end ≡ meant) × IsDue ask bytes meant text) ⊎ ((end ≡ ReadFault) ⊎ ((end ≡ WriteFault) ⊎ (end ≡ NoMemory))))
+  pub no_other : HasRun ask bytes ⊎ ((meant : Ending) × (text : List ℕ)
+      × (((end ≡ meant) × IsDue ask bytes meant text) ⊎ ((end ≡ ReadFault) ⊎ ((end ≡ WriteFault) ⊎ (end ≡ NoMemory)))))
 
 -- ---- the call
 
 -- What the call makes sure of: for some bytes of each file, which agree with all that is told, the answer is theirs; whatever run is asked for of
--- whatever graph they spell is right; so are the runs of whatever large input is asked for; and each other input is answered.
+-- whatever graph they spell is right, at whatever level; the sink took the report of whatever run is asked for of whatever thread code they spell, and
+-- where that is the code of a graph, the run is the graph's at the level of threads; so are the runs of whatever large input is asked for; and to each
+-- input that is read what is due is given.
 pub record IsRightCall (words : Asked) (before now : Told) (code : ℕ) (old new : Option (List ℕ)) (faults faults_new : ℕ) : Type 0 where
   pub contents : Contents
   pub agrees : Agrees before.left contents
   pub end : Ending
   pub code_is : code ≡ code_of end
   pub done : IsDone (Answer words contents before now) end old new faults faults_new
-  pub run : (g : Graph) (ask : Request) → AsksRun words contents g ask → IsRightRun g ask (ReadFailed words before now) end old new
+  pub run : (level : Level) (g : Graph) (ask : Request) → AsksRun words contents level g ask
+      → IsRightRun level g ask (ReadFailed words before now) end old new
+  pub code_run : (p : Program) (ask : Request) → AsksCodeRun words contents p ask → TookReport (code_run_of ask p) (ReadFailed words before now) end old new
+  pub emitted : (g : Graph) (ask : Request) → AsksEmitted words contents g ask → IsRunOfGraph g ask (ReadFailed words before now) end old new
   pub made : (shape : Shape) (n : ℕ) → AsksMade words shape n → IsRightMade shape n end old new
-  pub answered : (ask : Request) (bytes : List ℕ) → AsksText words contents ask bytes → runs ask.mode ≡ false → makes ask.mode ≡ false
-      → IsAnswered ask bytes end old new
+  pub answered : (ask : Request) (bytes : List ℕ) → AsksText words contents ask bytes → makes ask.mode ≡ false → IsAnswered ask bytes end old new
   pub files : KeepsFiles words end before now old new

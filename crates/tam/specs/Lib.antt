@@ -1,8 +1,11 @@
 pub mod AnswerLines
 pub mod SaidRuns
 pub mod MadeRuns
+pub mod CodeAnswers
+pub mod GraphAnswers
+pub mod Due
 pub mod Answers
-pub mod Listed
+pub mod Asks
 pub mod RightMade
 pub mod Headline
 pub mod Stopping

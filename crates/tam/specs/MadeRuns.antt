@@ -23,11 +23,12 @@ use Rattle.tam.specs.SaidRuns.{ending_of}
 
 -- the levels at which a large input is run, in their order
 abbrev pub levels : List Level
-levels = level.Graph ∷ []
+levels = level.Graph ∷ level.Tl0 ∷ []
 
 -- a level by its name
 abbrev pub level_name : Level → List ℕ
 level_name level.Graph = codes "graph"
+level_name level.Tl0 = codes "tl0"
 
 -- the argument of a large input's `main`
 abbrev pub argument_of : Shape → ℕ → ℕ

@@ -9,7 +9,8 @@ use Rattle.tam_make.specs.MadeTexts.{made_text}
 use Rattle.tam_msgs.specs.Runs.{Quiet, joined}
 use Rattle.tam_flow.specs.Headline.{IsRight}
 use Rattle.tam_run.specs.declared.level.Level.{Level}
-use Rattle.tam_run.specs.RightRuns.{HasRoom}
+use Rattle.tl0_keep.specs.ThreadLaws.{HasRoomAside}
+use Rattle.tam_run.specs.RightRuns.{HasRoom, LiveSuffice}
 use Rattle.tam_words.specs.Names.{makes, shape_of}
 use Rattle.tam_words.specs.Options.{usual_limits}
 use Rattle.tam_words.specs.Jobs.{Asked, Job, JobParts}
@@ -17,7 +18,7 @@ use Rattle.tam_input.specs.declared.ending.Ending.{Ending}
 use Rattle.tam_input.specs.declared.ending.Ending.TheVariants.{WriteFault, NoMemory}
 use Rattle.tam_input.specs.Refusing.{no_memory_line}
 use Rattle.tam.specs.MadeRuns.{argument_of, made_report, made_lines, made_ending}
-use Rattle.tam.specs.Answers.{Spells}
+use Rattle.tam.specs.GraphAnswers.{Spells}
 
 -- a large input is asked for: of this shape, with this number
 pub record AsksMade (words : Asked) (shape : Shape) (n : ℕ) : Type 0 where
@@ -45,4 +46,6 @@ pub record IsRightMade (shape : Shape) (n : ℕ) (end : Ending) (old new : Optio
   pub spelled : Spells (made_text shape n) g
   pub right : (level : Level) → IsRight g (argument_of shape n ∷ []) usual_limits (made_report shape n g level)
   pub complete : (level : Level) → HasRoom g (argument_of shape n ∷ []) usual_limits → (made_report shape n g level).how ≡ Quiet
+  pub complete_live : (level : Level) → HasRoomAside g (argument_of shape n ∷ []) usual_limits → LiveSuffice level g (argument_of shape n ∷ []) [] usual_limits
+      → (made_report shape n g level).how ≡ Quiet
   pub took : TookLines (made_lines shape n g) (made_ending shape n g) end old new

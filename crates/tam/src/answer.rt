@@ -8,6 +8,7 @@ ghost use Rattle.tam.specs.Answers.{AnswerTo};
 ghost use Rattle.tam.specs.Headline.{IsDone};
 
 use crate::assembly::answer_assembly_text;
+use crate::code_run::answer_code_text;
 use crate::graph_text::answer_graph_text;
 use crate::made::answer_made;
 use std::alloc::Global;
@@ -24,8 +25,14 @@ pub fn answer<K: Sink>(alloc: Global, input: Input, out: &mut K) -> Ending
     let Input { job, order, text } = input;
     match job.mode() {
         Mode::Assemble => answer_assembly_text(alloc, &text, out),
-        Mode::Graph | Mode::Check | Mode::EmitDg | Mode::Sets | Mode::Parts | Mode::EmitTl0 =>
-            answer_graph_text(alloc, &text, &job, order, out),
+        Mode::Graph
+        | Mode::Tl0
+        | Mode::Check
+        | Mode::EmitDg
+        | Mode::Sets
+        | Mode::Parts
+        | Mode::EmitTl0 => answer_graph_text(alloc, &text, &job, order, out),
+        Mode::ExecTl0 => answer_code_text(alloc, &text, &job, order, out),
         Mode::Make => answer_made_job(alloc, &job, out),
     }
 }

@@ -3,7 +3,8 @@ ghost use Rattle.std.specs.Prelude.{◌≡◌, ◌≤◌, true, ℕ, List, lengt
 ghost use Rattle.tam_graph.specs.Reading.{Reads};
 ghost use Rattle.tam_read.specs.Placed.{lines_in};
 ghost use Rattle.tam_input.specs.Inputs.{request_of};
-ghost use Rattle.tam.specs.Answers.{AnswerTo, Spells, reads_graph};
+ghost use Rattle.tam.specs.GraphAnswers.{Spells, reads_graph};
+ghost use Rattle.tam.specs.Answers.{AnswerTo};
 ghost use Rattle.tam.specs.Headline.{IsDone};
 
 use crate::graph_run::run_graph;
@@ -19,6 +20,7 @@ use tam_list::{print_check, print_parts, print_sets};
 use tam_msgs::Order;
 use tam_print::print;
 use tam_read::{Found, Refused, read};
+use tam_run::Level;
 use tam_words::{Job, Mode};
 
 /// Answers a graph's text by the job's mode.
@@ -87,12 +89,13 @@ fn answer_accepted<K: Sink>(
         (K.taken out.old) (K.taken out.new) (K.faults out.old) (K.faults out.new) }
 {
     match job.mode() {
-        Mode::Graph => run_graph(alloc, graph, job, order, out),
+        Mode::Graph => run_graph(alloc, Level::Graph, graph, job, order, out),
+        Mode::Tl0 => run_graph(alloc, Level::Tl0, graph, job, order, out),
         Mode::Check => say_made(print_check(alloc, graph), Ending::Done, out),
         Mode::EmitDg => say_made(print(alloc, graph.graph()), Ending::Done, out),
         Mode::Sets => say_made(print_sets(alloc, graph), Ending::Done, out),
         Mode::Parts => say_made(print_parts(alloc, graph), Ending::Done, out),
         Mode::EmitTl0 => say_made(thread_text(alloc, graph), Ending::Done, out),
-        Mode::Assemble | Mode::Make => unreachable!(),
+        Mode::Assemble | Mode::ExecTl0 | Mode::Make => unreachable!(),
     }
 }

@@ -29,7 +29,7 @@ use tam_run::Level;
 use tam_words::shape_name;
 
 /// The levels at which a large input is run, in their order.
-const LEVELS: [Level; 1] = [Level::Graph];
+const LEVELS: [Level; 2] = [Level::Graph, Level::Tl0];
 
 /// Makes a large input and runs it at each level.
 ///
@@ -200,6 +200,7 @@ fn level_line(level: Level) -> &'static [u8]
 {
     match level {
         Level::Graph => b"level graph\n",
+        Level::Tl0 => b"level tl0\n",
     }
 }
 

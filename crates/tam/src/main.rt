@@ -1,14 +1,17 @@
 //! Runs a dataflow graph: the program around the top call.
 //!
-//! Over all crates of the graph level, the readers of words and files, the large inputs, and the assembler.
+//! Over the crates of runs and of thread code, the readers of words and files, the large inputs, and the assembler.
 //! Read `specs/Headline.antt` first: what the top call makes sure of. Then `src/top.rt`.
 #![tactic(auto)]
 
 mod answer;
 mod assembly;
+mod code_line;
+mod code_run;
 mod graph_run;
 mod graph_text;
 mod made;
+mod outcome;
 mod refusal;
 mod say;
 mod status;

@@ -1,13 +1,15 @@
 // The lines of refusals.
 ghost use Rattle.std.specs.Prelude.{◌≡◌, ◌++◌, IfOk, OnOk, codes};
 ghost use Rattle.std.specs.Fmt.{decimal};
-ghost use Rattle.tam.specs.AnswerLines.{refused_line, read_cause_name, check_cause_name, asm_cause_name};
+ghost use Rattle.tam.specs.AnswerLines.{refused_line, read_cause_name, check_cause_name, asm_cause_name, code_text_cause_name, code_cause_name};
 
 use rv_asm::AsmCause;
 use std::alloc::{AllocError, Global};
 use tam_graph::CheckCause;
 use tam_read::{Limit, ReadCause};
 use tam_word::print_number;
+use tl0_code::BadCause;
+use tl0_text::Cause0;
 
 /// Adds a number in decimal.
 pub fn push_number(line: &mut Vec<u8>, number: u32) -> Result<(), AllocError>
@@ -65,6 +67,34 @@ pub fn check_cause_name(cause: CheckCause) -> &'static [u8]
         CheckCause::DepthMismatch => b"DepthMismatch",
         CheckCause::MainType => b"MainType",
         CheckCause::Cycle => b"Cycle",
+    }
+}
+
+/// A fault of a text of thread code by its name.
+pub fn code_text_cause_name(cause: Cause0) -> &'static [u8]
+    ensures value { result.now ≡ code_text_cause_name cause }
+{
+    match cause {
+        Cause0::BadHead => b"BadHead",
+        Cause0::BadLine => b"BadLine",
+        Cause0::BadNumber => b"BadNumber",
+        Cause0::TooMany => b"TooMany",
+        Cause0::Ended => b"Ended",
+    }
+}
+
+/// A fault of thread code by its name.
+pub fn code_cause_name(cause: BadCause) -> &'static [u8]
+    ensures value { result.now ≡ code_cause_name cause }
+{
+    match cause {
+        BadCause::Frame => b"Frame",
+        BadCause::Main => b"Main",
+        BadCause::Slot => b"Slot",
+        BadCause::Thread => b"Thread",
+        BadCause::Inlet => b"Inlet",
+        BadCause::Callee => b"Callee",
+        BadCause::Place => b"Place",
     }
 }
 

@@ -33,6 +33,17 @@ const CYCLE: &[u8] = b"dg 1\ncode main\na = add b b\nb = add a a\nresult 0 a\nen
 const OWN_INDEX: &[u8] =
     b"dg 1\ncode main\nn = const 1\nA:1 = alloc n\na = fetch A b\nb = add a a\nresult 0 a\nend\n";
 
+// The thread code of `ADD`.
+const ADD_CODE: &[u8] =
+    b"tl0 2\ncodes 1 main 0\ncode 2 1 5\ninlet 2 1\ninlet 3 1\nthread 1\nstop\nthread 2\nadd 4 2 3\nret 0 4\nstop\nend\n";
+
+// A thread that spends itself again.
+const TWICE_CODE: &[u8] = b"tl0 2\ncodes 1 main 0\ncode 0 0 2\nthread 1\nfork 0\nstop\nend\n";
+
+// A thread that spends one that isn't there, in the second code.
+const NO_THREAD_CODE: &[u8] =
+    b"tl0 2\ncodes 2 main 1\ncode 0 0 2\nthread 1\nstop\nend\ncode 0 0 2\nthread 1\nfork 1\nstop\nend\n";
+
 // Words, the text of the file `f`, the numbers of the writes that fail; what the sink took, and the status.
 #[derive(Drop)]
 struct Case {
@@ -141,10 +152,10 @@ fn each_end_of_a_run_has_its_status(rt: HostRuntime) -> Result<(), Fail> {
             status: 6,
         },
         Case {
-            words: &["graph", "f", "--frames=4"],
+            words: &["graph", "f", "--frames=1"],
             text: CALL,
             fail: &[],
-            taken: b"frames full 4\nevents 11\nactivations 4\ncells 0\n",
+            taken: b"frames full 1\nevents 2\nactivations 1\ncells 0\n",
             status: 7,
         },
         Case {
@@ -167,6 +178,161 @@ fn each_end_of_a_run_has_its_status(rt: HostRuntime) -> Result<(), Fail> {
             fail: &[],
             taken: b"result 0 = 5\nquiet\nevents 5\nactivations 1\ncells 0\n",
             status: 0,
+        },
+    ];
+    for case in &cases {
+        check(&rt, case)?;
+    }
+    Ok(())
+}
+
+#[test]
+fn threads_of_graphs_run(rt: HostRuntime) -> Result<(), Fail> {
+    let cases = [
+        Case {
+            words: &["tl0", "f", "--args=2,3"],
+            text: ADD,
+            fail: &[],
+            taken: b"result 0 = 5\nquiet\nevents 5\nactivations 1\ncells 0\n",
+            status: 0,
+        },
+        // The entry of a graph without vertices is one thread.
+        Case {
+            words: &["tl0", "f"],
+            text: EMPTY,
+            fail: &[],
+            taken: b"quiet\nevents 1\nactivations 1\ncells 0\n",
+            status: 0,
+        },
+        Case {
+            words: &["tl0", "f", "--args=6"],
+            text: MISSING,
+            fail: &[],
+            taken: b"result 1 = 7\nquiet\nmissing 0\nevents 9\nactivations 1\ncells 1\n",
+            status: 4,
+        },
+        Case {
+            words: &["tl0", "f", "--args=9"],
+            text: DOUBLE,
+            fail: &[],
+            taken: b"double write 0.5 0.4\nevents 10\nactivations 1\ncells 1\n",
+            status: 5,
+        },
+        Case {
+            words: &["tl0", "f", "--args=4"],
+            text: OUTSIDE,
+            fail: &[],
+            taken: b"out of range 0.3 4 4\nevents 7\nactivations 1\ncells 4\n",
+            status: 6,
+        },
+        Case {
+            words: &["tl0", "f", "--frames=1"],
+            text: CALL,
+            fail: &[],
+            taken: b"frames full 1\nevents 3\nactivations 1\ncells 0\n",
+            status: 7,
+        },
+        Case {
+            words: &["tl0", "f", "--args=0xffffffff"],
+            text: LARGE,
+            fail: &[],
+            taken: b"cells full 0 4294967295\nevents 4\nactivations 1\ncells 0\n",
+            status: 8,
+        },
+        Case {
+            words: &["tl0", "f", "--args=2,3", "--budget=4"],
+            text: ADD,
+            fail: &[],
+            taken: b"budget spent 4\nevents 4\nactivations 1\ncells 0\n",
+            status: 9,
+        },
+        Case {
+            words: &["tl0", "f", "--args=2,3"],
+            text: ADD,
+            fail: &[2],
+            taken: b"result 0 = 5\n",
+            status: 10,
+        },
+        Case {
+            words: &["tl0", "f", "--args=1"],
+            text: ADD,
+            fail: &[],
+            taken: b"usage ArgsCount\n",
+            status: 2,
+        },
+    ];
+    for case in &cases {
+        check(&rt, case)?;
+    }
+    Ok(())
+}
+
+#[test]
+fn thread_code_runs(rt: HostRuntime) -> Result<(), Fail> {
+    let cases = [
+        Case {
+            words: &["emit-tl0", "f"],
+            text: ADD,
+            fail: &[],
+            taken: ADD_CODE,
+            status: 0,
+        },
+        Case {
+            words: &["exec-tl0", "f", "--args=2,3"],
+            text: ADD_CODE,
+            fail: &[],
+            taken: b"result 0 = 5\nquiet\nevents 5\nactivations 1\ncells 0\n",
+            status: 0,
+        },
+        Case {
+            words: &["exec-tl0", "f", "--args=2,3,4"],
+            text: ADD_CODE,
+            fail: &[],
+            taken: b"usage ArgsCount\n",
+            status: 2,
+        },
+        Case {
+            words: &["exec-tl0", "f"],
+            text: TWICE_CODE,
+            fail: &[],
+            taken: b"wild thread 0\nevents 1\nactivations 1\ncells 0\n",
+            status: 12,
+        },
+        Case {
+            words: &["exec-tl0", "f"],
+            text: TWICE_CODE,
+            fail: &[2],
+            taken: b"wild thread 0\n",
+            status: 10,
+        },
+        // The head of the second code stands on line 7, and the fault two lines behind it.
+        Case {
+            words: &["exec-tl0", "f"],
+            text: NO_THREAD_CODE,
+            fail: &[],
+            taken: b"refused line 9 Thread\n",
+            status: 1,
+        },
+        Case {
+            words: &["exec-tl0", "f"],
+            text: b"tl0 2\ncodes 1 main 0\ncode 0 0\n",
+            fail: &[],
+            taken: b"refused line 3 BadLine\n",
+            status: 1,
+        },
+        Case {
+            words: &["exec-tl0", "f"],
+            text: b"",
+            fail: &[],
+            taken: b"refused line 1 Ended\n",
+            status: 1,
+        },
+        Case {
+            words: &["exec-tl0", "f", "--args=1"],
+            text: ADD,
+            fail: &[],
+            taken: b"refused line 1 BadHead\n",
+            status: 1,
         },
     ];
     for case in &cases {
@@ -222,7 +388,8 @@ fn graphs_are_checked_and_printed(rt: HostRuntime) -> Result<(), Fail> {
 
 // Events are vertices that fire, inlets apart, and messages that come. Of a ladder's `main` 3 fire and 6 messages come; of a code that calls the next one 104
 // and 4, of the last one 102 and none. Of a wave's `main` 11 and 13; of a row 20 and 15, of the end of the rows 5; of a cell 22 and 8, and 8 and 6 more where
-// it is a sum, 2 where it isn't; of the end of a row 7.
+// it is a sum, 2 where it isn't; of the end of a row 7. At the level of threads they are threads that run, and messages: of a ladder's `main` 4 and 6, of its
+// only code 2. Those of a wave of 3 rows are counted by an interpreter of thread code that was written apart from this one.
 #[test]
 fn large_inputs_are_made_and_run(rt: HostRuntime) -> Result<(), Fail> {
     let cases = [
@@ -230,14 +397,14 @@ fn large_inputs_are_made_and_run(rt: HostRuntime) -> Result<(), Fail> {
             words: &["make", "ladder", "1"],
             text: b"",
             fail: &[],
-            taken: b"shape ladder 1\nbytes 1707\nlevel graph\nresult 0 = 100\nquiet\nevents 111\nactivations 2\ncells 0\n",
+            taken: b"shape ladder 1\nbytes 1707\nlevel graph\nresult 0 = 100\nquiet\nevents 111\nactivations 2\ncells 0\nlevel tl0\nresult 0 = 100\nquiet\nevents 12\nactivations 2\ncells 0\n",
             status: 0,
         },
         Case {
             words: &["make", "wave", "3"],
             text: b"",
             fail: &[],
-            taken: b"shape wave 3\nbytes 1258\nlevel graph\nresult 0 = 6\nquiet\nevents 491\nactivations 17\ncells 12\n",
+            taken: b"shape wave 3\nbytes 1258\nlevel graph\nresult 0 = 6\nquiet\nevents 491\nactivations 17\ncells 12\nlevel tl0\nresult 0 = 6\nquiet\nevents 587\nactivations 17\ncells 12\n",
             status: 0,
         },
         Case {

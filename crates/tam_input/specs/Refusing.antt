@@ -58,12 +58,14 @@ most_order_bytes = 1048576
 -- the most bytes of the text that a mode reads: none where it reads no file
 abbrev pub most_bytes : Mode → ℕ
 most_bytes mode.Graph = 1048576
+most_bytes mode.Tl0 = 1048576
 most_bytes mode.Check = 1048576
 most_bytes mode.EmitDg = 1048576
 most_bytes mode.Sets = 1048576
 most_bytes mode.Parts = 1048576
 most_bytes mode.EmitTl0 = 1048576
 most_bytes mode.Assemble = 67108864
+most_bytes mode.ExecTl0 = 67108864
 most_bytes mode.Make = 0
 
 -- a file, but for one that was read already

@@ -17,8 +17,8 @@ use tam_words::{Job, Mode, read_words};
 // The most bytes of an order file and of a graph's text.
 const MOST_BYTES: u32 = 1_048_576;
 
-// The most bytes of an assembly text.
-const MOST_ASSEMBLY_BYTES: u32 = 67_108_864;
+// The most bytes of a text of thread code, and of an assembly text.
+const MOST_CODE_BYTES: u32 = 67_108_864;
 
 /// A job with its order list and the bytes of its file.
 #[derive(Drop)]
@@ -145,9 +145,14 @@ fn most_bytes(mode: Mode) -> u32
     ensures value { result ≡ most_bytes mode }
 {
     match mode {
-        Mode::Graph | Mode::Check | Mode::EmitDg | Mode::Sets | Mode::Parts | Mode::EmitTl0 =>
-            MOST_BYTES,
-        Mode::Assemble => MOST_ASSEMBLY_BYTES,
+        Mode::Graph
+        | Mode::Tl0
+        | Mode::Check
+        | Mode::EmitDg
+        | Mode::Sets
+        | Mode::Parts
+        | Mode::EmitTl0 => MOST_BYTES,
+        Mode::Assemble | Mode::ExecTl0 => MOST_CODE_BYTES,
         Mode::Make => 0,
     }
 }

@@ -5,7 +5,7 @@ use Rattle.std.specs.Str.{bytes_eq}
 use Rattle.tam_words.specs.declared.mode.Mode.{Mode}
 use Rattle.tam_make.specs.declared.shape.Shape.{Shape}
 use Rattle.tam_make.specs.declared.shape.Shape.TheVariants.{Ladder, Wave}
-use Rattle.tam_words.specs.declared.mode.Mode.TheVariants.{Graph, Check, EmitDg, Sets, Parts, EmitTl0, Assemble, Make}
+use Rattle.tam_words.specs.declared.mode.Mode.TheVariants.{Graph, Tl0, Check, EmitDg, Sets, Parts, EmitTl0, Assemble, ExecTl0, Make}
 use Rattle.tam_words.specs.declared.setting.Setting.{Setting}
 use Rattle.tam_words.specs.declared.setting.Setting.TheVariants.{Args as Set_args, Order as Set_order, OrderFile as Set_order_file}
 use Rattle.tam_words.specs.declared.setting.Setting.TheVariants.{Budget as Set_budget, Frames as Set_frames, Cells as Set_cells}
@@ -18,17 +18,19 @@ use Rattle.tam_words.specs.declared.usage_cause.UsageCause.TheVariants.{Args, Or
 -- the word that names a mode
 abbrev pub mode_name : Mode → List ℕ
 mode_name Graph = codes "graph"
+mode_name Tl0 = codes "tl0"
 mode_name Check = codes "check"
 mode_name EmitDg = codes "emit-dg"
 mode_name Sets = codes "sets"
 mode_name Parts = codes "parts"
 mode_name EmitTl0 = codes "emit-tl0"
 mode_name Assemble = codes "assemble"
+mode_name ExecTl0 = codes "exec-tl0"
 mode_name Make = codes "make"
 
 -- every mode
 abbrev pub modes : List Mode
-modes = Graph ∷ Check ∷ EmitDg ∷ Sets ∷ Parts ∷ EmitTl0 ∷ Assemble ∷ Make ∷ []
+modes = Graph ∷ Tl0 ∷ Check ∷ EmitDg ∷ Sets ∷ Parts ∷ EmitTl0 ∷ Assemble ∷ ExecTl0 ∷ Make ∷ []
 
 -- the mode that a word names
 abbrev pub mode_of : List ℕ → Option Mode
@@ -37,34 +39,40 @@ mode_of word = find (λ mode. bytes_eq word (mode_name mode)) modes
 -- the mode makes a run
 abbrev pub runs : Mode → Bool
 runs Graph = true
+runs Tl0 = true
 runs Check = false
 runs EmitDg = false
 runs Sets = false
 runs Parts = false
 runs EmitTl0 = false
 runs Assemble = false
+runs ExecTl0 = true
 runs Make = false
 
 -- the mode makes its input: a shape stands in the place of the file's name, and a count behind it
 abbrev pub makes : Mode → Bool
 makes Graph = false
+makes Tl0 = false
 makes Check = false
 makes EmitDg = false
 makes Sets = false
 makes Parts = false
 makes EmitTl0 = false
 makes Assemble = false
+makes ExecTl0 = false
 makes Make = true
 
 -- the mode reads the file of its name
 abbrev pub reads_file : Mode → Bool
 reads_file Graph = true
+reads_file Tl0 = true
 reads_file Check = true
 reads_file EmitDg = true
 reads_file Sets = true
 reads_file Parts = true
 reads_file EmitTl0 = true
 reads_file Assemble = true
+reads_file ExecTl0 = true
 reads_file Make = false
 
 -- ---- shapes

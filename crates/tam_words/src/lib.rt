@@ -11,8 +11,8 @@
 //!
 //! - `Words`: fewer than two words are there, or MODE or NAME is empty or begins with `-`, or a later word is none of the options, or one of
 //!   the options comes twice; in `make`, more than three words are there;
-//! - `Mode`: MODE is no mode, which are `graph`, `check`, `emit-dg`, `sets`, `parts`, `assemble` and `make`;
-//! - `Extra`: an option stands at another mode than `graph`, or `--order` beside `--order-file`;
+//! - `Mode`: MODE is no mode, which are `graph`, `tl0`, `check`, `emit-dg`, `sets`, `parts`, `emit-tl0`, `assemble`, `exec-tl0` and `make`;
+//! - `Extra`: an option stands at another mode than `graph`, `tl0` and `exec-tl0`, or `--order` beside `--order-file`;
 //! - `Shape`: in `make` NAME is neither `ladder` nor `wave`;
 //! - `Count`: in `make` there is no count, or it isn't `0|[1-9][0-9]*`, or not within 1 to 200 for a ladder, 1 to 60 for a wave;
 //! - `Args`: the text of `--args` is neither empty nor words joined by commas;

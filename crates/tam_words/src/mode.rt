@@ -9,24 +9,28 @@ ghost use Rattle.tam_words.specs.Names.{makes, mode_name, mode_of, reads_file, r
 #[derive(Clone, Copy, Debug, PartialEq, Eq)]
 pub enum Mode {
     Graph,
+    Tl0,
     Check,
     EmitDg,
     Sets,
     Parts,
     EmitTl0,
     Assemble,
+    ExecTl0,
     Make,
 }
 
 /// Every mode, in the order of `Mode`.
-pub const MODES: [Mode; 8] = [
+pub const MODES: [Mode; 10] = [
     Mode::Graph,
+    Mode::Tl0,
     Mode::Check,
     Mode::EmitDg,
     Mode::Sets,
     Mode::Parts,
     Mode::EmitTl0,
     Mode::Assemble,
+    Mode::ExecTl0,
     Mode::Make,
 ];
 
@@ -37,12 +41,14 @@ impl Mode {
     {
         match self {
             Mode::Graph => b"graph",
+            Mode::Tl0 => b"tl0",
             Mode::Check => b"check",
             Mode::EmitDg => b"emit-dg",
             Mode::Sets => b"sets",
             Mode::Parts => b"parts",
             Mode::EmitTl0 => b"emit-tl0",
             Mode::Assemble => b"assemble",
+            Mode::ExecTl0 => b"exec-tl0",
             Mode::Make => b"make",
         }
     }
@@ -52,7 +58,7 @@ impl Mode {
         ensures value { result ≡ runs self }
     {
         match self {
-            Mode::Graph => true,
+            Mode::Graph | Mode::Tl0 | Mode::ExecTl0 => true,
             Mode::Check
             | Mode::EmitDg
             | Mode::Sets
@@ -70,12 +76,14 @@ impl Mode {
         match self {
             Mode::Make => true,
             Mode::Graph
+            | Mode::Tl0
             | Mode::Check
             | Mode::EmitDg
             | Mode::Sets
             | Mode::Parts
             | Mode::EmitTl0
-            | Mode::Assemble => false,
+            | Mode::Assemble
+            | Mode::ExecTl0 => false,
         }
     }
 
@@ -85,12 +93,14 @@ impl Mode {
     {
         match self {
             Mode::Graph
+            | Mode::Tl0
             | Mode::Check
             | Mode::EmitDg
             | Mode::Sets
             | Mode::Parts
             | Mode::EmitTl0
-            | Mode::Assemble => true,
+            | Mode::Assemble
+            | Mode::ExecTl0 => true,
             Mode::Make => false,
         }
     }

@@ -31,7 +31,7 @@ fn check_cause<R: Abort + AllocGlobal>(
 
 #[test]
 fn wrong_words_have_their_cause(rt: HostRuntime) -> Result<(), Fail> {
-    let cases: [(&[&str], UsageCause); 42] = [
+    let cases: [(&[&str], UsageCause); 45] = [
         (&[], UsageCause::Words),
         (&["graph"], UsageCause::Words),
         (&["", "f"], UsageCause::Words),
@@ -49,6 +49,9 @@ fn wrong_words_have_their_cause(rt: HostRuntime) -> Result<(), Fail> {
         (&["fly", "f", "--args=x"], UsageCause::Mode),
         (&["grap", "f"], UsageCause::Mode),
         (&["check", "f", "--args="], UsageCause::Extra),
+        (&["emit-tl0", "f", "--frames=1"], UsageCause::Extra),
+        (&["tl0", "f", "--frames=0"], UsageCause::Frames),
+        (&["exec-tl0", "f", "--args=1,"], UsageCause::Args),
         (
             &["graph", "f", "--order=x", "--args=x", "--order-file="],
             UsageCause::Extra,
@@ -124,12 +127,14 @@ fn an_order_has_a_greatest_length(rt: HostRuntime) -> Result<(), Fail> {
 fn modes_have_their_words(rt: HostRuntime) -> Result<(), Fail> {
     let cases = [
         ("graph", Mode::Graph),
+        ("tl0", Mode::Tl0),
         ("check", Mode::Check),
         ("emit-dg", Mode::EmitDg),
         ("sets", Mode::Sets),
         ("parts", Mode::Parts),
         ("emit-tl0", Mode::EmitTl0),
         ("assemble", Mode::Assemble),
+        ("exec-tl0", Mode::ExecTl0),
     ];
     for (word, mode) in cases {
         let texts = texts(&rt, &[word, "f"])?;

@@ -3,7 +3,8 @@ use Rattle.rv_image.specs.ImageFiles.{image_bytes}
 use Rattle.tam_input.proofs.Found.{if-ok}
 use Rattle.tam.specs.AnswerLines.{refused_line, asm_cause_name}
 use Rattle.tam_input.specs.declared.ending.Ending.TheVariants as ending
-use Rattle.tam.specs.Answers.{AnswerTo, not_assembled, assembled, wanted}
+use Rattle.tam.specs.Due.{of_assembly, not_assembled, assembled}
+use Rattle.tam.specs.Answers.{AnswerTo, due, wanted}
 use Rattle.tam.proofs.Saying.{said-done, made-done}
 use Rattle.tam.proofs.assembly.answer_assembly_text.Goals as goal
 
@@ -11,7 +12,7 @@ pub returns-in-Ok : goal.returns-in-Ok
 returns-in-Ok g c = record {
   done = λ ask mode.
       made-done _ _ _ _ (AnswerTo ask c.args.text.now) ending.Done c.say_made.result c.write_image.result (image_bytes c.in-Ok.image)
-      (assembled mode c.in-Ok.ensures.reads) wanted c.write_image.ensures.value c.say_made.ensures.said;
+      (due (of_assembly mode (assembled c.in-Ok.ensures.reads))) wanted c.write_image.ensures.value c.say_made.ensures.said;
 }
 
 pub returns-in-Err-At : goal.returns-in-Err-At
@@ -19,7 +20,7 @@ returns-in-Err-At g c = record {
   done = λ ask mode.
       made-done _ _ _ _ (AnswerTo ask c.args.text.now) ending.Refused c.say_made-in-Err-At.result c.refused_line.result
       (refused_line c.in-Err-At.line (asm_cause_name c.in-Err-At.cause))
-      (not_assembled mode (rw c.in-Err-At.field-0-is at c.in-Err-At.ensures.refused)) wanted
+      (due (of_assembly mode (not_assembled (rw c.in-Err-At.field-0-is at c.in-Err-At.ensures.refused)))) wanted
       (if-ok c.refused_line.result (λ t e. e ∙ ap₂ refused_line c.in-Err-At.line-is
       (c.asm_cause_name.ensures.value ∙ ap asm_cause_name c.in-Err-At.cause-is)) c.refused_line.ensures.value) c.say_made-in-Err-At.ensures.said;
 }

@@ -2,38 +2,42 @@ use Rattle.std.proofs.Common.{◌≡◌, ◌∙◌, sym, ap, subst, List, ℕ, l
 use Rattle.tam_graph.specs.Graphs.{Graph, code_of, params_of}
 use Rattle.tam_msgs.specs.declared.item.Item.{Item}
 use Rattle.tam_msgs.specs.declared.limits.Limits.{Limits}
-use Rattle.tam_run.specs.declared.level.Level.TheVariants as level
+use Rattle.tam_run.specs.declared.level.Level.{Level}
 use Rattle.tam_run.specs.Levels.{told_at}
 use Rattle.tam_words.specs.declared.usage_cause.UsageCause.TheVariants.{ArgsCount}
 use Rattle.tam_input.specs.Inputs.{request_of}
 use Rattle.tam_input.specs.Refusing.{usage_line}
 use Rattle.tam_input.specs.declared.ending.Ending.TheVariants as ending
 use Rattle.tam.specs.SaidRuns.{SaysRun}
-use Rattle.tam.specs.Answers.{AnswerTo, wrong_count, ran}
+use Rattle.tam.specs.GraphAnswers.{wrong_count}
+use Rattle.tam.specs.Due.{of_graph}
+use Rattle.tam.specs.Answers.{AnswerTo, due, ran}
 use Rattle.tam.proofs.Saying.{said-done, done-more}
+use Rattle.tam.proofs.Modes.{runs-graph}
 use Rattle.tam.proofs.Running.{one-each}
 use Rattle.tam.proofs.graph_run.run_graph.Goals as goal
 
 -- a run on the same arguments within the same limits is the same run
-same-run : (g : Graph) (args given : List ℕ) (order : List Item) (limits ls : Limits) → given ≡ args → ls ≡ limits
-    → told_at level.Graph g given order ls ≡ told_at level.Graph g args order limits
-same-run g args given order limits ls e f = ap (λ a. told_at level.Graph g a order ls) e ∙ ap (told_at level.Graph g args order) f
+same-run : (level : Level) (g : Graph) (args given : List ℕ) (order : List Item) (limits ls : Limits) → given ≡ args → ls ≡ limits
+    → told_at level g given order ls ≡ told_at level g args order limits
+same-run level g args given order limits ls e f = ap (λ a. told_at level g a order ls) e ∙ ap (told_at level g args order) f
 
 pub returns-then-args-params : goal.returns-then-args-params
 returns-then-args-params g c = record {
   done = λ bytes spelled.
       said-done _ _ _ _ (AnswerTo (request_of c.args.job.now c.args.order) bytes) ending.Usage c.say.result (usage_line ArgsCount)
-      (wrong_count c.requires.mode spelled (λ e. c.if-args-params.true (ap length c.args-args.ensures.value ∙ e
-      ∙ sym (c.params.ensures.value ∙ ap (λ n. params_of (code_of c.args.graph.now n)) c.main.ensures.value))))
+      (due (of_graph (runs-graph c.args.job.now.mode c.args.level c.requires.mode).reads_it (wrong_count c.requires.mode spelled (λ e.
+      c.if-args-params.true (ap length c.args-args.ensures.value ∙ e
+      ∙ sym (c.params.ensures.value ∙ ap (λ n. params_of (code_of c.args.graph.now n)) c.main.ensures.value))))))
       c.say.ensures.said;
 }
 
 pub returns : goal.returns
 returns g c = record {
   done = λ bytes spelled.
-      let same = same-run c.args.graph.now c.args.job.now.args c.args-args.result.now c.args.order c.args.job.now.limits c.limits.result c.args-args.ensures.value
-      c.limits.ensures.value in
-      done-more _ _ _ _ (SaysRun (told_at level.Graph c.args.graph.now c.args-args.result.now c.args.order c.limits.result))
+      let same = same-run c.args.level c.args.graph.now c.args.job.now.args c.args-args.result.now c.args.order c.args.job.now.limits c.limits.result
+      c.args-args.ensures.value c.limits.ensures.value in
+      done-more _ _ _ _ (SaysRun (told_at c.args.level c.args.graph.now c.args-args.result.now c.args.order c.limits.result))
       (AnswerTo (request_of c.args.job.now c.args.order) bytes) c.run_at.result (λ meant text says. ran (record {
         mode = c.requires.mode;
         spelled = spelled;

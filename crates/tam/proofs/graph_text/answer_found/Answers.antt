@@ -4,7 +4,9 @@ use Rattle.tam_input.proofs.Found.{if-ok}
 use Rattle.tam_input.specs.Inputs.{request_of}
 use Rattle.tam.specs.AnswerLines.{refused_line, check_cause_name}
 use Rattle.tam_input.specs.declared.ending.Ending.TheVariants as ending
-use Rattle.tam.specs.Answers.{AnswerTo, not_accepted, wanted}
+use Rattle.tam.specs.GraphAnswers.{not_accepted}
+use Rattle.tam.specs.Due.{of_graph}
+use Rattle.tam.specs.Answers.{AnswerTo, due, wanted}
 use Rattle.tam.proofs.Saying.{said-done, made-done}
 use Rattle.tam.proofs.graph_text.answer_found.Goals as goal
 
@@ -14,7 +16,7 @@ returns-in-Err-default-At g c = record {
       let told = c.in-Err-default-At in
       made-done _ _ _ _ (AnswerTo (request_of c.args.job.now c.args.order) bytes) ending.Refused c.say_made.result c.refused_line.result
       (refused_line (line_at (lines_in bytes) told.place) (check_cause_name told.cause))
-      (not_accepted c.requires.graph reads (rw told.field-0-1-is at told.ensures.refused)) wanted
+      (due (of_graph c.requires.graph (not_accepted reads (rw told.field-0-1-is at told.ensures.refused)))) wanted
       (if-ok c.refused_line.result (λ t e. e ∙ ap₂ refused_line
       (c.line-line.ensures.value ∙ ap (line_at c.args.found.lines) told.place-is ∙ ap (λ l. line_at l told.place) lines)
       (c.check_cause_name.ensures.value ∙ ap check_cause_name told.cause-is))

@@ -3,14 +3,17 @@ use Rattle.tam_input.proofs.Found.{if-ok}
 use Rattle.tam_input.specs.Inputs.{request_of}
 use Rattle.tam.specs.AnswerLines.{refused_line, read_cause_name}
 use Rattle.tam_input.specs.declared.ending.Ending.TheVariants as ending
-use Rattle.tam.specs.Answers.{AnswerTo, not_graph, wanted}
+use Rattle.tam.specs.GraphAnswers.{not_graph}
+use Rattle.tam.specs.Due.{of_graph}
+use Rattle.tam.specs.Answers.{AnswerTo, due, wanted}
 use Rattle.tam.proofs.Saying.{said-done, made-done}
 use Rattle.tam.proofs.graph_text.answer_graph_text.Goals as goal
 
 pub returns-in-Err-At : goal.returns-in-Err-At
 returns-in-Err-At g c = record {
   done = made-done _ _ _ _ (AnswerTo (request_of c.args.job.now c.args.order) c.args.text.now) ending.Refused c.say_made.result c.refused_line.result
-      (refused_line c.in-Err-At.line (read_cause_name c.in-Err-At.cause)) (not_graph c.requires.graph (rw c.in-Err-At.field-0-is at c.in-Err-At.ensures.refused)) wanted
+      (refused_line c.in-Err-At.line (read_cause_name c.in-Err-At.cause))
+      (due (of_graph c.requires.graph (not_graph (rw c.in-Err-At.field-0-is at c.in-Err-At.ensures.refused)))) wanted
       (if-ok c.refused_line.result (λ t e. e ∙ ap₂ refused_line c.in-Err-At.line-is
       (c.read_cause_name.ensures.value ∙ ap read_cause_name c.in-Err-At.cause-is)) c.refused_line.ensures.value) c.say_made.ensures.said;
 }

@@ -4,9 +4,9 @@ use Rattle.tam_input.specs.Told.{told}
 use Rattle.tam_input.specs.Inputs.{request_of}
 use Rattle.tam_input.specs.Refusing.{refusal_ending, refusal_line}
 use Rattle.tam.specs.Answers.{Answer, AnswerTo, refused, answered}
-use Rattle.tam.specs.Headline.{ask_of}
+use Rattle.tam.specs.Asks.{ask_of}
 use Rattle.tam.proofs.Saying.{said-done, done-more, said-is}
-use Rattle.tam.proofs.RightRuns.{right-call}
+use Rattle.tam.proofs.RightRuns.{Laws, right-call}
 use Rattle.tam.proofs.Keeping.{answer-keeps, refusal-keeps}
 use Rattle.tam.proofs.top.end.Goals as goal
 
@@ -18,8 +18,17 @@ returns-in-Ok g c =
     let found = c.in-Ok.ensures.found in
     let request = request_of c.in-Ok.input.job c.in-Ok.input.order in
     let bytes = c.in-Ok.input.text.items in
+    let laws : Laws = record {
+      made = c.law_made.ensures.accepted;
+      borne = c.law_runs.ensures.borne;
+      right = c.law_runs.ensures.right;
+      room = c.law_runs.ensures.room;
+      live = c.law_runs.ensures.live;
+      checked = c.law_checked.ensures.checked;
+      short = c.law_texts.ensures.by_pairs;
+    } in
     record {
-      headline = right-call c.law_made.ensures.accepted c.law_runs.ensures.borne c.law_runs.ensures.right c.law_runs.ensures.room (map string_bytes c.args.words.now) found.0 before now c.answer.result _ _ _ _ found.1
+      headline = right-call laws (map string_bytes c.args.words.now) found.0 before now c.answer.result _ _ _ _ found.1
           (done-more _ _ _ _ (AnswerTo request bytes) (Answer words found.0 before now) c.answer.result (λ meant text a. answered found.2 a) c.answer.ensures.done)
           (answer-keeps words before now _ _ c.answer.result c.in-Ok.input request bytes _ _ c.in-Ok.ensures.files c.in-Ok.ensures.read_out c.answer.ensures.done);
     }
@@ -31,8 +40,17 @@ returns-in-Err g c =
     let words = ask_of c.args.words.now in
     let found = c.in-Err.ensures.refused in
     let said = said-is _ _ _ _ _ _ _ _ _ c.ending.ensures.value c.line.ensures.value c.say.ensures.said in
+    let laws : Laws = record {
+      made = c.law_made.ensures.accepted;
+      borne = c.law_runs.ensures.borne;
+      right = c.law_runs.ensures.right;
+      room = c.law_runs.ensures.room;
+      live = c.law_runs.ensures.live;
+      checked = c.law_checked.ensures.checked;
+      short = c.law_texts.ensures.by_pairs;
+    } in
     record {
-      headline = right-call c.law_made.ensures.accepted c.law_runs.ensures.borne c.law_runs.ensures.right c.law_runs.ensures.room (map string_bytes c.args.words.now) found.0 before now c.say.result _ _ _ _ found.1
+      headline = right-call laws (map string_bytes c.args.words.now) found.0 before now c.say.result _ _ _ _ found.1
           (said-done _ _ _ _ (Answer words found.0 before now) (refusal_ending c.in-Err.refusal) c.say.result (refusal_line c.in-Err.refusal) (refused found.2) said)
           (refusal-keeps words before now _ _ c.say.result Input c.in-Err.refusal _ _ c.in-Err.ensures.files said);
     }

@@ -1,0 +1,25 @@
+use Rattle.std.proofs.Common.{◌∙◌, ap, ap₂}
+use Rattle.tam_input.proofs.Found.{if-ok}
+use Rattle.tam_input.specs.Inputs.{request_of}
+use Rattle.tam_input.specs.declared.ending.Ending.TheVariants as ending
+use Rattle.tam.specs.AnswerLines.{refused_line, code_text_cause_name}
+use Rattle.tam.specs.CodeAnswers.{not_code}
+use Rattle.tam.specs.Due.{of_code}
+use Rattle.tam.specs.Answers.{AnswerTo, due, wanted}
+use Rattle.tam.proofs.Saying.{said-done, made-done}
+use Rattle.tam.proofs.code_run.answer_code_text.Goals as goal
+
+pub returns-in-Err-At : goal.returns-in-Err-At
+returns-in-Err-At g c = record {
+  done = made-done _ _ _ _ (AnswerTo (request_of c.args.job.now c.args.order) c.args.text.now) ending.Refused c.say_made.result c.refused_line.result
+      (refused_line c.in-Err-At.line (code_text_cause_name c.in-Err-At.cause))
+      (due (of_code c.requires.mode (not_code (rw c.in-Err-At.field-0-is at c.in-Err-At.ensures.refused)))) wanted
+      (if-ok c.refused_line.result (λ t e. e ∙ ap₂ refused_line c.in-Err-At.line-is
+      (c.code_text_cause_name.ensures.value ∙ ap code_text_cause_name c.in-Err-At.cause-is)) c.refused_line.ensures.value) c.say_made.ensures.said;
+}
+
+pub returns : goal.returns
+returns g c = record {
+  done = said-done _ _ _ _ (AnswerTo (request_of c.args.job.now c.args.order) c.args.text.now) ending.NoMemory c.say_no_memory.result _ wanted
+      c.say_no_memory.ensures.said;
+}

@@ -93,6 +93,9 @@ CASES = [
     ["graph", "examples/wavefront.dg", "--args=6"],
     ["graph", "RESULTS", "--args=7"],
     ["graph", "GONE"],
+    ["tl0", "examples/branches.dg", "--args=1,4"],
+    ["tl0", "examples/wavefront.dg", "--args=6"],
+    ["tl0", "RESULTS", "--args=7"],
     ["check", "examples/wavefront.dg"],
     ["check", "REFUSED"],
     ["check", "LARGE"],
@@ -102,6 +105,9 @@ CASES = [
     ["emit-tl0", "examples/branches.dg"],
     ["assemble", "ASSEMBLY"],
     ["assemble", "REFUSED"],
+    ["exec-tl0", "THREADS", "--args=2,3"],
+    ["exec-tl0", "WILD"],
+    ["exec-tl0", "REFUSED"],
     ["make", "ladder", "2"],
     ["make", "wave", "4"],
 ]
@@ -111,6 +117,8 @@ FILES = {
     "REFUSED": "dg 1\ncode main\nx = param\nend\n",
     "LARGE": "dg 1\n" + "# a comment\n" * 5000 + "code main\nend\n",
     "RESULTS": "dg 1\ncode main\na = param 0\n" + "".join(f"result {place} a\n" for place in range(12)) + "end\n",
+    "THREADS": "tl0 2\ncodes 1 main 0\ncode 2 1 5\ninlet 2 1\ninlet 3 1\nthread 1\nstop\nthread 2\nadd 4 2 3\nret 0 4\nstop\nend\n",
+    "WILD": "tl0 2\ncodes 1 main 0\ncode 0 1 2\nthread 1\nret 0 1\nret 0 1\nstop\nend\n",
     "ASSEMBLY": ".image 1\n.stride 32\n.params 0\n.results 0\non:\naddi x5, x5, 1\nbne x5, x0, on\n.word 7\n",
 }
 

@@ -68,7 +68,7 @@ def measure(program, mode, label, text, words):
     memory = least_memory(program, words, end)
     os.unlink(file.name)
     seconds = min(run[0] for run in runs)
-    events = events_of(end[1]) if mode == "graph" else None
+    events = events_of(end[1]) if mode in ("graph", "tl0") else None
     rate = f"{events / seconds:.0f}" if events else ""
     print(f"| {mode}, {label} | {len(text)} | {end[0]} | {events or ''} | {seconds * 1000:.1f} | {rate} | {memory} |", flush=True)
 
@@ -80,10 +80,13 @@ def example(name):
 
 def measure_runs(program):
     room = ["--budget=4294967295", "--frames=16384", "--cells=4194304"]
-    for number in (15, 30, 60):
-        measure(program, "graph", f"wavefront of {number} by {number}", example("wavefront.dg"), [f"--args={number}", *room])
-    for number in (12, 15, 18):
-        measure(program, "graph", f"fib of {number}", example("fib.dg"), [f"--args={number}", *room])
+    for mode in ("graph", "tl0"):
+        for number in (15, 30, 60):
+            measure(program, mode, f"wavefront of {number} by {number}", example("wavefront.dg"), [f"--args={number}", *room])
+        for number in (14, 16, 18):
+            measure(program, mode, f"fib of {number}", example("fib.dg"), [f"--args={number}", *room])
+        for count in (50, 100, 200):
+            measure(program, mode, f"a ladder of {count}", texts.ladder(count), ["--args=0", *room])
 
 
 def measure_words(program):
@@ -152,6 +155,14 @@ def measure_loops(program):
             memory = least_memory(program, words, end)
             seconds = min(run[0] for run in runs)
             print(f"| loops, {loop} | | {end[0]} | {times} | {seconds * 1000:.1f} | {times / seconds:.0f} | {memory} |", flush=True)
+    # blocks at random, cut into classes
+    for vertices in (64, 128, 256, 512):
+        words = ["block", "400", str(vertices)]
+        runs = runs_of(program, words)
+        end = runs[0][1]
+        memory = least_memory(program, words, end)
+        seconds = min(run[0] for run in runs)
+        print(f"| loops, block of {vertices} vertices | | {end[0]} | 400 | {seconds * 1000:.1f} | {400 / seconds:.0f} | {memory} |", flush=True)
     # texts of thread code of 16, 32 and 64 MB
     for times in (2_396_740, 4_793_480, 9_586_960):
         words = ["forks", str(times)]

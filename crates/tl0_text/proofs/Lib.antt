@@ -8,6 +8,6 @@ mod Sayings
 mod TextsRead
 mod Leading
 mod TextsBack
-mod ProgramsBack
+pub mod ProgramsBack
 mod Looping
 mod Printed

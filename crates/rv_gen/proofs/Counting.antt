@@ -97,7 +97,8 @@ records-few (c ∷ cs) h k =
 -- the image of checked code
 pub all-few : (p : Program) → IsChecked p → words_in_all p < 2 ^ 32
 all-few p c =
-    let a : sum_by code_words p.codes ≤ 19 * sum_by instr_count p.codes + 3073 * length p.codes = codes-few p.codes (λ n l. (c.within.each_code n l).few_threads) in
+    let a : sum_by code_words p.codes ≤ 19 * sum_by instr_count p.codes + 3073 * length p.codes =
+    codes-few p.codes (λ n l. (c.within.each_code n l).few_threads) in
     let b : sum_by record_words p.codes ≤ 7173 * length p.codes =
     records-few p.codes (λ n l. (c.within.each_code n l).few_threads) (λ n l. (c.within.each_code n l).few_inlets) in
     let d : sum_by instr_count p.codes ≤ 67108864 = c.within.few_instrs in

@@ -62,7 +62,8 @@ expanded-same slots n c f g e (Istore r x a m) h = refl
 expanded-same slots n c f g e (Skip m) h = refl
 
 -- what is made of each element is the same
-flat-same : {X Y : Type 0} (P : X → Type 0) (f g : X → List Y) → ((x : X) → P x → f x ≡ g x) → (xs : List X) → AllByRecursion P xs → flat_map f xs ≡ flat_map g xs
+flat-same : {X Y : Type 0} (P : X → Type 0) (f g : X → List Y) → ((x : X) → P x → f x ≡ g x) → (xs : List X) → AllByRecursion P xs
+    → flat_map f xs ≡ flat_map g xs
 flat-same P f g e [] h = refl
 flat-same {X} {Y} P f g e (x ∷ xs) h = ap₂ (λ (ys zs : List Y). ys ++ zs) (e x h.0) (flat-same P f g e xs h.1)
 

@@ -47,7 +47,8 @@ start-within p c l =
 -- so does the next record
 pub next-record : (p : Program) (c : ℕ) → c < length p.codes → record_of p (c + 1) ≡ record_of p c + 4 * record_words (code_text p c)
 next-record p c l =
-    let a : sum_by record_words (take (c + 1) p.codes) ≡ sum_by record_words (take c p.codes) + record_words (code_text p c) = codes-more record_words p.codes c l in
+    let a : sum_by record_words (take (c + 1) p.codes) ≡ sum_by record_words (take c p.codes) + record_words (code_text p c) =
+    codes-more record_words p.codes c l in
     omega arith
 
 -- within the image

@@ -62,7 +62,7 @@ fn push_opening(
 // Once registers 19 to 21 have the addresses and the bytes of a frame.
 fn opening_behind(main: u32) -> [Inst; 8]
     requires few_codes { main ≤ 256 }
-    ensures value { (frames stride table : ℕ) → load_number 19 frames ++ load_number 20 stride ++ load_number 21 table ++ result ≡ opening frames stride table main }
+    ensures value { (f s t : ℕ) → load_number 19 f ++ load_number 20 s ++ load_number 21 t ++ result ≡ opening f s t main }
 {
     [
         addi(8, 0, 0),

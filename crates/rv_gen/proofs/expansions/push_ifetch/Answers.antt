@@ -14,7 +14,8 @@ returns c =
     let number : Pushes c.push_element.new.words.items c.push_insts.new.words.items (lw 12 number_at 8 ∷ []) =
     piece c.push_element.new.words.items c.push_insts.new.words.items (c.lw.result ∷ []) (lw 12 number_at 8 ∷ []) c.in_ok-push_insts.ensures.ok
     (ap (λ (i : Inst). i ∷ []) c.lw.ensures.value) in
-    let numbers : Pushes c.push_insts.new.words.items c.push_numbers.new.words.items (load_number 13 c.args.inlet ++ load_number 14 (site c.args.code c.args.node)) =
+    let numbers : Pushes c.push_insts.new.words.items c.push_numbers.new.words.items
+    (load_number 13 c.args.inlet ++ load_number 14 (site c.args.code c.args.node)) =
     piece c.push_insts.new.words.items c.push_numbers.new.words.items (load_number 13 c.args.inlet ++ load_number 14 c.site.result)
     (load_number 13 c.args.inlet ++ load_number 14 (site c.args.code c.args.node)) c.in_ok-push_numbers.ensures.ok
     (ap (λ (s : ℕ). load_number 13 c.args.inlet ++ load_number 14 s) c.site.ensures.value) in

@@ -18,5 +18,6 @@ returns c =
     piece c.push_forks.new.words.items c.push_insts.new.words.items (c.jal.result ∷ []) (Jal 0 32 ∷ []) c.in_ok-push_insts.ensures.ok
     (ap (λ (i : Inst). i ∷ []) c.jal.ensures.value) in
     let made = both (both test yes) jump in
-    let forked = piece c.push_insts.new.words.items c.push_forks-2.new.words.items (forks c.args.slots starts c.args.no) (forks c.args.slots starts c.args.no) in
+    let fork = forks c.args.slots starts c.args.no in
+    let forked = piece c.push_insts.new.words.items c.push_forks-2.new.words.items fork fork in
     record { ok = on_ok_weaker c.push_forks-2.result (λ e. (both made (forked e refl)).pushes) c.push_forks-2.ensures.ok }

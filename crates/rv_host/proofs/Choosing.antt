@@ -1,5 +1,5 @@
--- What the event at a poll is, by what was chosen, and by how the way to the poll went.
-use Rattle.std.proofs.Common.{◌≡◌, ◌∙◌, ℕ, ◌+◌, ◌==◌, not, Bool, false, List, length, refl, sym, ap, arith, None, Result, Ok, Err}
+-- What the event at a poll is, by what was chosen, and the answer of the way to the poll with it.
+use Rattle.std.proofs.Common.{◌≡◌, ◌∙◌, ℕ, ◌+◌, ◌==◌, not, Bool, false, List, length, refl, sym, ap, None, Result, Ok, Err}
 use Rattle.std.specs.Prelude.{slice_get}
 use Rattle.tam_msgs.specs.declared.limits.Limits.{Limits}
 use Rattle.tam_msgs.specs.declared.item.Item.{Item}
@@ -9,16 +9,16 @@ use Rattle.tam_msgs.specs.declared.stop.Stop.TheVariants.{DoubleWrite, OutOfRang
 use Rattle.tam_msgs.specs.declared.choice.Choice.{Choice}
 use Rattle.tam_msgs.specs.declared.choice.Choice.TheVariants.{Run as Choose_run, Deliver as Choose_delivery}
 use Rattle.tam_msgs.specs.Runs.{choice, Outcome, Next, Ended}
-use Rattle.tam_istr.specs.Cells.{Arrays, cells_used}
+use Rattle.tam_istr.specs.Cells.{Arrays}
 use Rattle.rv_inst.specs.Images.{Image}
 use Rattle.rv_inst.specs.Harts.{reg, with_reg}
-use Rattle.rv_keep.specs.Hosts.{Host, Reached, At_poll, with_hart}
+use Rattle.rv_keep.specs.Hosts.{Host, At_poll, with_hart}
 use Rattle.rv_keep.specs.HostRuns.{at_poll, chosen, counted, delivered_at}
 use Rattle.rv_host.specs.declared.host_state.HostState.{HostState}
 use Rattle.rv_host.specs.declared.stop_rv.StopRv.{StopRv}
 use Rattle.rv_host.specs.declared.stop_rv.StopRv.TheVariants.{Stop as Stops, Wild as Goes_wild, Trap as Traps}
-use Rattle.rv_host.specs.HostStates.{beside_of, IsKept}
-use Rattle.rv_host.specs.HostEvents.{Arrives, Sends, MayWant, IsOutcome, IsCounted, ended_by}
+use Rattle.rv_host.specs.HostStates.{beside_of}
+use Rattle.rv_host.specs.HostEvents.{MayWant, IsOutcome, IsCounted, ended_by}
 
 module _ (image : Image) (limits : Limits) (s : Host) (rest : List Item) (unspent : (s.events == limits.budget) ≡ false) where
   -- a thread is to run
@@ -36,23 +36,6 @@ pub chosen-is : (s : Host) (ready : Bool) (count : ℕ) → ready ≡ not (reg s
     → chosen ≡ choice s.order ready count → choice s.order (not (reg s.hart 10 == 0)) (length s.pending) ≡ chosen
 chosen-is s ready count ready_is count_is chosen is =
     sym (is ∙ ap (λ (b : Bool). choice s.order b count) ready_is ∙ ap (choice s.order (not (reg s.hart 10 == 0))) count_is)
-
--- memory may be wanted where a message was sent on the way
-wanted : (sends : Type 0) (o : Outcome Host) → sends → MayWant sends o
-wanted sends (Next s) p = tt
-wanted sends (Ended how s) p = p
-
--- where the way to the poll stops, so does the run
-pub arrives-stops : (image : Image) (limits : Limits) (reached : Reached) (s t : Host) (stop : StopRv) → Arrives reached s t (Err stop)
-    → IsOutcome (Sends s.pending reached) (at_poll image limits reached) t (Err stop)
-arrives-stops image limits reached s t (Goes_wild what n) e = ap (at_poll image limits) e
-arrives-stops image limits reached s t (Traps pc cause) e = ap (at_poll image limits) e
-arrives-stops image limits reached s t (Stops NoMemory) e = wanted (Sends s.pending reached) (at_poll image limits reached) e
-arrives-stops image limits reached s t (Stops (DoubleWrite x y)) e = absurd e
-arrives-stops image limits reached s t (Stops (OutOfRange x y n)) e = absurd e
-arrives-stops image limits reached s t (Stops (FramesFull n)) e = absurd e
-arrives-stops image limits reached s t (Stops (CellsFull x y)) e = absurd e
-arrives-stops image limits reached s t (Stops (BudgetSpent n)) e = absurd e
 
 -- where memory isn't wanted for a message on the way, it may be wanted for one
 may-want : (sends : Type 0) (o : Outcome Host) → MayWant ⊥ o → MayWant sends o
@@ -75,30 +58,12 @@ outcome-behind sends o t (Err (Goes_wild what n)) p = p
 outcome-behind sends o t (Err (Traps pc cause)) p = p
 
 -- what the way leaves as it was
-abbrev pub Beside : Type 0
+abbrev Beside : Type 0
 Beside = ℕ × Arrays × ℕ × List Bool × ℕ
 
-module _ (old new : HostState) (same : beside_of new ≡ beside_of old) where
-  -- what is kept
-  pub kept-beside : (limits : Limits) → IsKept limits old → IsKept limits new
-  kept-beside limits kept =
-      let arrays : length new.cells ≡ length old.cells = ap (λ (b : Beside). length b.1) same in
-      let cells : cells_used new.cells ≡ cells_used old.cells = ap (λ (b : Beside). cells_used b.1) same in
-      let events : new.events ≡ old.events = ap (λ (b : Beside). b.4) same in
-      record {
-        frames = ap (λ (b : Beside). b.0) same ∙ kept.frames;
-        arrays = omega (arith, arrays, events, kept.arrays);
-        cells = omega (arith, cells, kept.cells);
-        events = omega (arith, events, kept.events);
-      }
-
-  -- what was printed, with its marks
-  pub printed-beside : new.printed.items ≡ old.printed.items
-  printed-beside = ap (λ (b : Beside). b.3) same
-
-  -- the events
-  pub events-beside : new.events ≡ old.events
-  events-beside = ap (λ (b : Beside). b.4) same
+-- what was printed, with its marks
+pub printed-beside : (old new : HostState) → beside_of new ≡ beside_of old → new.printed.items ≡ old.printed.items
+printed-beside old new same = ap (λ (b : Beside). b.3) same
 
 -- where the run goes on, an event more was made
 pub counted-more : (old new : ℕ) (r : Result Made StopRv) → IsCounted old new r → ended_by r ≡ None → new ≡ old + 1

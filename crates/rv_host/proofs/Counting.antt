@@ -1,5 +1,6 @@
 -- Each step that doesn't trap is counted, and so long as the count has room the machine's count is the definition's.
-use Rattle.std.proofs.Common.{◌≡◌, ◌∙◌, ℕ, zero, suc, ◌+◌, ◌-◌, ◌<◌, ◌≤◌, ◌^◌, ◌%◌, ◌==◌, nat_le, min, Bool, true, false, List, [], ◌∷◌, length, refl, sym, ap, arith}
+use Rattle.std.proofs.Common.{◌≡◌, ◌∙◌, ℕ, zero, suc, ◌+◌, ◌-◌, ◌<◌, ◌≤◌, ◌^◌, ◌%◌, ◌==◌}
+use Rattle.std.proofs.Common.{nat_le, Bool, true, false, List, [], ◌∷◌, length, refl, sym, ap, arith}
 use Rattle.std.proofs.Math.Nat.{min-eq_left}
 use Rattle.tam_word.specs.Words.{wrapped}
 use Rattle.rv_inst.specs.declared.inst.Inst.{Inst}
@@ -129,12 +130,3 @@ module _ (h h' : Hart) (r : RvStep) (is : r ≡ answer (hart_step h)) (after : h
           let i : p ≡ pc = cc in
           let j : k ≡ cause = cc in
           (e ∙ (ap (λ (n : ℕ). Trapped n k) i ∙ ap (Trapped pc) j), after ∙ ap (state_after h) e)
-
-  -- at most one step more was made
-  pub steps-more : h'.steps ≤ h.steps + 1
-  steps-more = go (hart_step h) refl (step-counts h)
-    where
-      go : (x : Step) → hart_step h ≡ x → Counts h x → h'.steps ≤ h.steps + 1
-      go (Done g) e c = let k : h'.steps ≡ min g.steps (2 ^ 64 - 1) = ap (λ (z : Hart). z.steps) (after ∙ ap (state_after h) e) in omega (arith, k, c)
-      go (Called g) e c = let k : h'.steps ≡ min g.steps (2 ^ 64 - 1) = ap (λ (z : Hart). z.steps) (after ∙ ap (state_after h) e) in omega (arith, k, c)
-      go (Trapped pc cause) e c = let k : h'.steps ≡ h.steps = ap (λ (z : Hart). z.steps) (after ∙ ap (state_after h) e) in omega (arith, k)

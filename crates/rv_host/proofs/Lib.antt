@@ -6,6 +6,5 @@ pub mod Arguments
 pub mod Printing
 pub mod Onward
 pub mod Choosing
-pub mod Beginning
 pub mod Polls
 pub mod Words

@@ -1,5 +1,6 @@
 -- The numbers of frames where one is taken or given back.
-use Rattle.std.proofs.Common.{◌≡◌, ◌≢◌, ◌∙◌, ℕ, zero, suc, ◌+◌, ◌-◌, ◌<◌, ◌≤◌, ◌==◌, ◌⊎◌, inl, inr, nat_lt, tests, Bool, true, false, List, [], ◌∷◌, ◌++◌, length, replicate, refl, sym, ap, subst, arith}
+use Rattle.std.proofs.Common.{◌≡◌, ◌≢◌, ◌∙◌, ℕ, zero, suc, ◌+◌, ◌-◌, ◌<◌, ◌≤◌, ◌==◌, ◌⊎◌, inl, inr, nat_lt}
+use Rattle.std.proofs.Common.{tests, Bool, true, false, List, [], ◌∷◌, ◌++◌, length, replicate, refl, sym, ap, subst, arith}
 use Rattle.std.proofs.Common.{true≢false}
 use Rattle.std.specs.Prelude.{slice_set}
 use Rattle.std.proofs.lemmas.List.{length_push, length-replicate}
@@ -169,7 +170,10 @@ module _ (n : Numbers) (are : AreNumbers n) where
         let m = length-marks n.marks f false in
         let c = marked-less n.marks f live in
         let used : n.count + length n.free ≡ n.count - 1 + suc (length n.free) = omega (arith, s) in
-        let below : f < n.count - 1 + suc (length n.free) = elim (before f (n.count + length n.free)) [ inl l ↦ omega (arith, l, used) | inr l ↦ absurd (true≢false (sym live ∙ are.unused f l)) ] in
+        let below : f < n.count - 1 + suc (length n.free) = elim (before f (n.count + length n.free)) [
+          | inl l ↦ omega (arith, l, used)
+          | inr l ↦ absurd (true≢false (sym live ∙ are.unused f l))
+        ] in
         record {
           counted = omega (arith, c, are.counted);
           few = omega (arith, used, m, are.few);

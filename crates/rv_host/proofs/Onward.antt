@@ -1,5 +1,5 @@
 -- The way to the poll so far, and what comes of it with what is left.
-use Rattle.std.proofs.Common.{◌≡◌, ◌∙◌, ℕ, suc, ◌-◌, ◌<◌, ◌≤◌, true, false, List, length, Ok, Err, refl, ap, arith}
+use Rattle.std.proofs.Common.{◌≡◌, ◌∙◌, ℕ, suc, ◌-◌, ◌<◌, ◌≤◌, true, false, List, length, Ok, Err, ap, arith}
 use Rattle.tam_msgs.specs.declared.item.Item.{Item}
 use Rattle.tam_msgs.specs.declared.stop.Stop.TheVariants.{DoubleWrite, OutOfRange, FramesFull, CellsFull, BudgetSpent, NoMemory}
 use Rattle.rv_inst.specs.declared.trap_cause.TrapCause.TheVariants.{NoPoll}
@@ -24,12 +24,9 @@ abbrev pub GoesOnward : ℕ → ℕ → HostState → HostState → Hart → Har
 GoesOnward n left old state hart hart' =
     (order : List Item) (printed : List (ℕ × ℕ)) (live : List ℕ) → AreLive old.numbers live → HasCome n left (host_of old hart order printed live) state hart'
 
--- before the first step
-pub onward-start : (n : ℕ) (old : HostState) (hart : Hart) → GoesOnward n n old old hart hart
-onward-start n old hart order printed live are = record { live = live; are_live = are; goes = refl; pending = omega arith }
-
 -- where memory is wanted, a message was sent on the whole way
-arrives-behind : (r q : Reached) (s u t : Host) (stop : StopRv) → r ≡ q → length s.pending ≤ length u.pending → Arrives q u t (Err stop) → Arrives r s t (Err stop)
+arrives-behind : (r q : Reached) (s u t : Host) (stop : StopRv) → r ≡ q → length s.pending ≤ length u.pending → Arrives q u t (Err stop)
+    → Arrives r s t (Err stop)
 arrives-behind r q s u t (Goes_wild what k) e l a = e ∙ a
 arrives-behind r q s u t (Traps pc cause) e l a = e ∙ a
 arrives-behind r q s u t (Stops NoMemory) e l a = rw e (omega (arith, l, a))

@@ -217,7 +217,8 @@ IsPoll old new hart hart' order order' result None =
 
 -- before the first event: the number 0 is live, nothing was printed, and with a machine at the first word of an image it is the definition's
 pub record IsOpening (args : List ℕ) (limits : Limits) (results : ℕ) (run : HostRun) : Type 0 where
-  pub opening : (image : Image) (order : List Item) → host_with run.state (hart_opening image limits.frames) order [] (0 ∷ []) ≡ host_opening image args order limits
+  pub opening : (image : Image) (order : List Item)
+      → host_with run.state (hart_opening image limits.frames) order [] (0 ∷ []) ≡ host_opening image args order limits
   pub are_live : AreLive run.state.numbers (0 ∷ [])
   pub are_marked : AreMarked run.state.marks []
   pub as_many : length run.state.marks ≡ results

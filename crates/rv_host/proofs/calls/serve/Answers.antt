@@ -20,11 +20,8 @@ returns-in_err-send-clause-value c = λ n before order printed live called are.
     let given : c.from_residual.result ≡ Err (Stops NoMemory) = search rules in
     let more =
     sends-more n s g called c.reg-call.result c.in-Some.message [] (sym c.reg-call.ensures.value) c.if-call-eq-POLL.false (sym c.in-Some.ensures.value) in
-    record {
-      live = live;
-      are_live = are;
-      leads = subst (λ (x : Result Bool StopRv). Leads n s (host_of (record c.args.state.now { pending = c.send.new.pending }) g order printed live) x) (sym given) more;
-    }
+    let t = host_of (record c.args.state.now { pending = c.send.new.pending }) g order printed live in
+    record { live = live; are_live = are; leads = subst (λ (x : Result Bool StopRv). Leads n s t x) (sym given) more }
 
 pub returns-then-not-is_live-clause-value : goal.returns-then-not-is_live-clause-value
 returns-then-not-is_live-clause-value c = λ n before order printed live called are.

@@ -34,7 +34,11 @@ returns-clause-poll c =
       instructions = c.self.inside.instructions;
       ended = c.self.inside.ended;
     } in
-    let new : HostRun = record run { state = seen_of c.advance-answer.new.state; instructions = c.steps-self-inside.result; ended = c.ended_by-self-inside.result } in
+    let new : HostRun = record run {
+      state = seen_of c.advance-answer.new.state;
+      instructions = c.steps-self-inside.result;
+      ended = c.ended_by-self-inside.result;
+    } in
     first-poll run c.args.self.now new c.args.rv.now c.advance-answer.new.rv c.args.order.now c.advance-answer.new.order c.advance-answer.result c.self.view_is
     c.in_default.is
     (λ image printed live results marked are. record {

@@ -1,4 +1,7 @@
 // Images of programs made by hand. Their words were written by a program of its own, apart from the definitions (`rv_keep` specs/ImageExamples).
+ghost use Rattle.std.specs.Prelude.{◌≤◌};
+ghost use Rattle.tl0_code.specs.ThreadCode.{instr_count};
+
 use crate::{generate, image_words};
 use rv_image::{Image, MAX_WORDS};
 use std::alloc::Global;
@@ -33,7 +36,9 @@ const SUM: [u32; 35] = [
     424, 0,
 ];
 
-fn image(alloc: Global, main: Code0) -> Result<Image, Fail> {
+fn image(alloc: Global, main: Code0) -> Result<Image, Fail>
+    requires few { instr_count main ≤ 67108864 }
+{
     let code = check0(Program0::of(0, vec![in alloc; main]?))?;
     if image_words(&code) > u64::from(MAX_WORDS) {
         return Err(Fail::from(NoMemory));

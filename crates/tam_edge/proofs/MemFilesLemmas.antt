@@ -1,6 +1,6 @@
 -- Files in memory: when a read is to fail, and what a lent vector comes back as.
 use Rattle.std.proofs.Common.{◌≡◌, ◌∙◌, ℕ, List, ◌++◌, length, take, true, Bool, inl, inr, ap, arith}
-use Rattle.std.specs.Prelude.{◌↔◌, ◌⊎◌, Vec, Contains}
+use Rattle.std.specs.Prelude.{◌↔◌, ◌⊎◌, Vec, Contains, Option}
 use Rattle.std.specs.declared.alloc.Global.{Global}
 use Rattle.std.specs.Vec.{with_items}
 use Rattle.std.proofs.lemmas.List.{append-nil, take_all, drop_all}
@@ -31,9 +31,9 @@ module _ (fail : List ℕ) (call : ℕ) (fails : Bool) (tested : (fails ≡ true
   is_not_to_fail not_chosen held (inr missing) = held (NoneNamed-pairs_by reversed_items name entries missing)
 
 -- files in memory after so many calls
-module _ (fail : List ℕ) (calls ends : ℕ) where
+module _ (fail : List ℕ) (calls ends : ℕ) (most : Option ℕ) where
   abbrev memory : List (List ℕ × List ℕ) → List (List ℕ × ℕ) → FilesInMemory
-  memory files faults = record { files = files; fail = fail; calls = calls; ends = ends; faults = faults }
+  memory files faults = record { files = files; fail = fail; calls = calls; ends = ends; faults = faults; most = most }
 
   -- with the same files and the same faults they are the same
   pub same_memory : (a b : List (List ℕ × List ℕ)) (m n : List (List ℕ × ℕ)) → a ≡ b → m ≡ n → memory a m ≡ memory b n

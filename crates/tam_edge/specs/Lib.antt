@@ -3,6 +3,7 @@ pub mod Reading
 pub mod Whole
 pub mod Entries
 pub mod Held
+pub mod Pieces
 pub mod MemFiles
 pub mod MemSink
 pub mod HostFiles

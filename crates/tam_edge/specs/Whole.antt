@@ -40,6 +40,6 @@ TellsTooLong before limit (Err TooLong) = IsLonger before limit
 TellsTooLong before limit (Err Fault) = ⊤
 TellsTooLong before limit (Err NoMemory) = ⊤
 
--- of the text a front was taken
-abbrev pub AppendsFront : Option (List ℕ) → Option (List ℕ) → List ℕ → Type 0
-AppendsFront old new bytes = (front rest : List ℕ) × (bytes ≡ front ++ rest) × Appends old new front
+-- of the text a prefix was taken
+abbrev pub AppendsPrefix : Option (List ℕ) → Option (List ℕ) → List ℕ → Type 0
+AppendsPrefix old new bytes = (prefix rest : List ℕ) × (bytes ≡ prefix ++ rest) × Appends old new prefix

@@ -1,6 +1,7 @@
-// The numbers of calls, from 1, of which chosen ones fail, and of ends that were given.
-ghost use Rattle.std.specs.Prelude.{◌≡◌, ◌≤◌, ◌↔◌, Contains, IsTrue};
+// The numbers of calls, from 1, of which chosen ones fail, and of ends that were given. How many bytes a call gives or takes.
+ghost use Rattle.std.specs.Prelude.{◌≡◌, ◌<◌, ◌≤◌, ◌↔◌, Contains, IsTrue, IfSome};
 ghost use Rattle.tam_edge.specs.Faults.{next_count, CountsEnd};
+ghost use Rattle.tam_edge.specs.Pieces.{at_most};
 
 use crate::FileError;
 
@@ -27,5 +28,18 @@ pub fn count_end(ends: u64, given: Result<usize, FileError>) -> u64
         Ok(0) => next_count(ends),
         Ok(_) => ends,
         Err(_) => ends,
+    }
+}
+
+/// So many bytes, but at most the bound where there is one.
+pub fn at_most(most: Option<u32>, count: usize) -> usize
+    requires some { IfSome most (λ most. 0 < most) }
+    ensures value { result ≡ at_most most count }
+    ensures within { result ≤ count }
+    ensures none { (result ≡ 0) ↔ (count ≡ 0) }
+{
+    match most {
+        Some(most) => count.min(most as usize),
+        None => count,
     }
 }

@@ -1,19 +1,21 @@
 // Files in memory, of which chosen reads fail.
 ghost use Rattle.std.specs.Prelude.{◌≡◌, ◌≢◌, ◌↔◌, ◌<◌, ◌≤◌, ◌⊎◌, min, List, ℕ, [], ◌++◌, length, map, reverse, take};
-ghost use Rattle.std.specs.Prelude.{Some, IfOk, OnOk, OnErr, IfSome, IfNone, IsTrue};
+ghost use Rattle.std.specs.Prelude.{None, Some, IfOk, OnOk, OnErr, IfSome, IfNone, IsTrue};
 ghost use Rattle.tam_edge.specs.Faults.{next_count, CountsRead, CountsEnd};
 ghost use Rattle.tam_edge.specs.Reading.{KeepsPiece};
+ghost use Rattle.tam_edge.specs.Pieces.{at_most};
 ghost use Rattle.tam_edge.specs.Entries.{pairs_by, NoneNamed, IsFirstNamed};
 ghost use Rattle.tam_edge.specs.Held.{reversed_items, bytes_of, count_of};
 ghost use Rattle.tam_edge.specs.MemFiles.{FilesInMemory, bytes_left, fault_count, bytes_held, ReadsMemory};
 
-use crate::calls::{count_end, is_to_fail, next_count};
+use crate::calls::{at_most, count_end, is_to_fail, next_count};
 use crate::entries::position_of;
 use crate::{FileError, Files};
 use std::alloc::{AllocError, Global};
 use std::marker::Model;
 
 /// Files by name, in memory. The reads with the numbers `fail` fail, counted from 1 over all names together.
+/// The others give all that fits, or the stated piece.
 ///
 /// A read that wants memory changes nothing, so the next one has its number.
 #[derive(Drop)]
@@ -25,6 +27,7 @@ pub struct MemFiles {
     calls: u64,
     ends: u64,
     faults: Vec<(String, u64)>,
+    most: Option<u32>,
 }
 
 impl Model for MemFiles {
@@ -36,7 +39,10 @@ impl Model for MemFiles {
       calls = memory.calls;
       ends = memory.ends;
       faults = pairs_by (λ count. count) memory.faults.items;
+      most = memory.most;
     } };
+
+    ghost invariant = { λ memory. IfSome memory.most (λ most. 0 < most) };
 }
 
 impl MemFiles {
@@ -46,6 +52,7 @@ impl MemFiles {
         ensures fail { result.fail ≡ fail.items }
         ensures uncalled { result.calls ≡ 0 }
         ensures endless { result.ends ≡ 0 }
+        ensures whole { result.most ≡ None }
         ensures left { (name : List ℕ) → ⟦<MemFiles as Files>⟧.left result name ≡ Some (bytes_held files.items name) }
         ensures faultless { (name : List ℕ) → ⟦<MemFiles as Files>⟧.faults result name ≡ 0 }
     {
@@ -57,7 +64,17 @@ impl MemFiles {
             calls: 0,
             ends: 0,
             faults: Vec::new(alloc),
+            most: None,
         }
+    }
+
+    /// The same files, of which from now on one read gives at most so many bytes.
+    pub fn in_pieces(mut self, most: u32) -> MemFiles
+        requires some { 0 < most }
+        ensures value { result ≡ record self { most = Some most } }
+    {
+        self.most = Some(most);
+        self
     }
 }
 
@@ -85,7 +102,7 @@ impl Files for MemFiles {
     {
         let call = next_count(self.calls);
         let fails = is_to_fail(&self.fail, call);
-        if let Some(count) = give_unless(fails, &mut self.files, name, piece) {
+        if let Some(count) = give_unless(fails, self.most, &mut self.files, name, piece) {
             self.calls = call;
             self.ends = count_end(self.ends, Ok(count));
             return Ok(count);
@@ -108,11 +125,13 @@ fn reverse_all(files: &mut [(String, Vec<u8>)])
 // The next bytes of the first file of that name, if there is one and the call is not to fail.
 fn give_unless(
     fails: bool,
+    most: Option<u32>,
     files: &mut [(String, Vec<u8>)],
     name: &str,
     piece: &mut [u8],
 ) -> Option<usize>
-    ensures fits { IfSome result (λ n. n ≡ min (length (bytes_of files.old name.now)) (length piece.old)) }
+    requires some { IfSome most (λ most. 0 < most) }
+    ensures fits { IfSome result (λ n. n ≡ at_most most (min (length (bytes_of files.old name.now)) (length piece.old))) }
     ensures given { IfSome result (λ n. bytes_of files.old name.now ≡ take n piece.new ++ bytes_of files.new name.now) }
     ensures others { (other : List ℕ) → other ≢ name.now → bytes_of files.new other ≡ bytes_of files.old other }
     ensures same_names { map (λ file. file.0) files.new ≡ map (λ file. file.0) files.old }
@@ -122,13 +141,19 @@ fn give_unless(
     if fails {
         None
     } else {
-        give(files, name, piece)
+        give(most, files, name, piece)
     }
 }
 
 // The next bytes of the first file of that name, if there is one.
-fn give(files: &mut [(String, Vec<u8>)], name: &str, piece: &mut [u8]) -> Option<usize>
-    ensures fits { IfSome result (λ n. n ≡ min (length (bytes_of files.old name.now)) (length piece.old)) }
+fn give(
+    most: Option<u32>,
+    files: &mut [(String, Vec<u8>)],
+    name: &str,
+    piece: &mut [u8],
+) -> Option<usize>
+    requires some { IfSome most (λ most. 0 < most) }
+    ensures fits { IfSome result (λ n. n ≡ at_most most (min (length (bytes_of files.old name.now)) (length piece.old))) }
     ensures given { IfSome result (λ n. bytes_of files.old name.now ≡ take n piece.new ++ bytes_of files.new name.now) }
     ensures others { (other : List ℕ) → other ≢ name.now → bytes_of files.new other ≡ bytes_of files.old other }
     ensures same_names { map (λ file. file.0) files.new ≡ map (λ file. file.0) files.old }
@@ -138,18 +163,19 @@ fn give(files: &mut [(String, Vec<u8>)], name: &str, piece: &mut [u8]) -> Option
     match position_of(files, name) {
         Some(i) => {
             let file = &mut files[i];
-            Some(take_next(&mut file.1, piece))
+            Some(take_next(most, &mut file.1, piece))
         }
         None => None,
     }
 }
 
-// Takes the next bytes off the end, as many as fit.
-fn take_next(bytes: &mut Vec<u8>, piece: &mut [u8]) -> usize
-    ensures fits { result ≡ min (length bytes.old.items) (length piece.old) }
+// Takes the next bytes off the end, as many as fit, or at most the bound.
+fn take_next(most: Option<u32>, bytes: &mut Vec<u8>, piece: &mut [u8]) -> usize
+    requires some { IfSome most (λ most. 0 < most) }
+    ensures fits { result ≡ at_most most (min (length bytes.old.items) (length piece.old)) }
     ensures given { reverse bytes.old.items ≡ take result piece.new ++ reverse bytes.new.items }
 {
-    let count = bytes.len().min(piece.len());
+    let count = at_most(most, bytes.len().min(piece.len()));
     let rest = bytes.len() - count;
     let given = &mut piece[..count];
     given.copy_from_slice(&bytes[rest..]);

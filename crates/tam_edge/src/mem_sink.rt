@@ -1,14 +1,15 @@
 // A sink in memory, of which chosen writes fail.
-ghost use Rattle.std.specs.Prelude.{◌≡◌, ◌<◌, ◌≤◌, [], ◌++◌, length, take, Some, IfOk, OnErr, vec_capacity};
+ghost use Rattle.std.specs.Prelude.{◌≡◌, ◌<◌, ◌≤◌, [], ◌++◌, length, take, None, Some, IfSome, IfOk, OnErr, vec_capacity};
 ghost use Rattle.tam_edge.specs.Faults.{CountsPut};
 ghost use Rattle.tam_edge.specs.MemSink.{SinkInMemory, PutsMemory};
 
-use crate::calls::{is_to_fail, next_count};
+use crate::calls::{at_most, is_to_fail, next_count};
 use crate::{Failed, NoMemory, Sink};
 use std::alloc::Global;
 use std::marker::Model;
 
-/// A sink in memory with room for so many bytes. The writes with the numbers `fail`, from 1, fail.
+/// A sink in memory with room for so many bytes. The writes with the numbers `fail`, from 1, fail. The others take all that fits,
+/// or the stated piece.
 #[derive(Drop)]
 pub struct MemSink {
     bytes: Vec<u8>,
@@ -16,6 +17,7 @@ pub struct MemSink {
     fail: Vec<u32>,
     calls: u64,
     faults: u64,
+    most: Option<u32>,
 }
 
 impl Model for MemSink {
@@ -27,15 +29,17 @@ impl Model for MemSink {
       fail = sink.fail.items;
       calls = sink.calls;
       faults = sink.faults;
+      most = sink.most;
     } };
 
-    ghost invariant = { λ sink. (length sink.bytes.items ≤ sink.room) × (sink.room ≤ vec_capacity sink.bytes) };
+    ghost invariant = { λ sink.
+        (length sink.bytes.items ≤ sink.room) × (sink.room ≤ vec_capacity sink.bytes) × IfSome sink.most (λ most. 0 < most) };
 }
 
 impl MemSink {
     /// An empty sink. Takes the memory for all its room.
     pub fn new(alloc: Global, room: u32, fail: Vec<u32>) -> Result<MemSink, NoMemory>
-        ensures value { IfOk result (λ sink. sink ≡ record { bytes = []; room = room; fail = fail.items; calls = 0; faults = 0 }) }
+        ensures value { IfOk result (λ sink. sink ≡ record { bytes = []; room = room; fail = fail.items; calls = 0; faults = 0; most = None }) }
     {
         Ok(MemSink {
             bytes: Vec::with_capacity(alloc, room as usize)?,
@@ -43,7 +47,17 @@ impl MemSink {
             fail,
             calls: 0,
             faults: 0,
+            most: None,
         })
+    }
+
+    /// The same sink, of which from now on one write takes at most so many bytes.
+    pub fn in_pieces(mut self, most: u32) -> MemSink
+        requires some { 0 < most }
+        ensures value { result ≡ record self { most = Some most } }
+    {
+        self.most = Some(most);
+        self
     }
 
     /// The bytes taken.
@@ -71,7 +85,7 @@ impl Sink for MemSink {
         ensures exact { PutsMemory self.old self.new piece.now result }
     {
         self.calls = next_count(self.calls);
-        let count = piece.len().min(self.room - self.bytes.len());
+        let count = at_most(self.most, piece.len().min(self.room - self.bytes.len()));
         if count == 0 || is_to_fail(&self.fail, self.calls) {
             self.faults = next_count(self.faults);
             return Err(Failed);

@@ -54,6 +54,80 @@ fn chosen_writes_fail(rt: HostRuntime) -> Result<(), Fail> {
     Ok(())
 }
 
+// At most one byte, at most three, and what fits. The second call of each fails, and the end is told once.
+#[test]
+fn files_are_read_in_pieces(rt: HostRuntime) -> Result<(), Fail> {
+    let failed = Err(FileError::Failed);
+    let cases: [(u32, &[Result<usize, FileError>], &[u8]); 3] = [
+        (
+            1,
+            &[Ok(1), failed, Ok(1), Ok(1), Ok(1), Ok(1), Ok(0)],
+            b"o---",
+        ),
+        (3, &[Ok(3), failed, Ok(2), Ok(0)], b"lol-"),
+        (9, &[Ok(4), failed, Ok(1), Ok(0)], b"oell"),
+    ];
+    for (most, given, last) in cases {
+        let mut files = three_files(rt.alloc(), &[2])?.in_pieces(most);
+        let mut piece = *b"----";
+        for count in given {
+            assert_eq!(rt; files.read("graph", &mut piece), *count, "at most {most}");
+        }
+        assert_eq!(rt; piece.as_slice(), last, "at most {most}");
+    }
+    Ok(())
+}
+
+#[test]
+fn a_sink_takes_pieces(rt: HostRuntime) -> Result<(), Fail> {
+    let alloc = rt.alloc();
+    let mut sink = MemSink::new(alloc, 8, Vec::from_slice(alloc, &[2])?)?.in_pieces(2);
+    let cases: [(&[u8], Result<usize, Failed>, &[u8]); 7] = [
+        (b"hello", Ok(2), b"he"),
+        (b"llo", Err(Failed), b"he"),
+        (b"llo", Ok(2), b"hell"),
+        (b"o", Ok(1), b"hello"),
+        (b"world", Ok(2), b"hellowo"),
+        (b"rld", Ok(1), b"hellowor"),
+        (b"ld", Err(Failed), b"hellowor"),
+    ];
+    for (piece, taken, bytes) in cases {
+        if !piece.is_empty() {
+            assert_eq!(rt; sink.put(piece), taken);
+        }
+        assert_eq!(rt; sink.bytes(), bytes);
+    }
+    Ok(())
+}
+
+// Five bytes are five writes, and six reads with the end. Before a failing call there are as many bytes as calls.
+#[test]
+fn whole_texts_go_byte_by_byte(rt: HostRuntime) -> Result<(), Fail> {
+    let alloc = rt.alloc();
+    let text = b"hello".as_slice();
+    for before in 0..=5usize {
+        let fail = [before as u32 + 1];
+        let mut sink = MemSink::new(alloc, 5, Vec::from_slice(alloc, &fail)?)?.in_pieces(1);
+        let written = if before < 5 { Err(Failed) } else { Ok(()) };
+        assert_eq!(rt; write_whole(&mut sink, text), written, "after {before}");
+        assert_eq!(rt; sink.bytes(), &text[..before]);
+
+        let mut files = three_files(alloc, &fail)?.in_pieces(1);
+        assert_eq!(rt;
+            read_whole(alloc, &mut files, "graph", 5),
+            Err(ReadError::Fault),
+            "after {before}"
+        );
+        assert_eq!(rt;
+            read_whole(alloc, &mut files, "graph", 5)?.as_slice(),
+            &text[before..]
+        );
+    }
+    let mut files = three_files(alloc, &[7])?.in_pieces(1);
+    assert_eq!(rt; read_whole(alloc, &mut files, "graph", 5)?.as_slice(), text);
+    Ok(())
+}
+
 #[test]
 fn a_file_is_read_whole(rt: HostRuntime) -> Result<(), Fail> {
     let alloc = rt.alloc();

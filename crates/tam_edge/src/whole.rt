@@ -3,7 +3,7 @@ ghost use Rattle.std.specs.Prelude.{◌≡◌, ◌≢◌, ◌≤◌, List, ℕ, 
 ghost use Rattle.std.specs.Io.KnownBytes.{Appends};
 ghost use Rattle.tam_edge.specs.Faults.{CountsReadWhole, CountsEndWhole, CountsPut};
 ghost use Rattle.tam_edge.specs.declared.whole.ReadError.TheVariants.{NoMemory as Wants_memory};
-ghost use Rattle.tam_edge.specs.Whole.{read_error_of, GivesAll, LeavesSuffix, TellsTooLong, AppendsFront};
+ghost use Rattle.tam_edge.specs.Whole.{read_error_of, GivesAll, LeavesSuffix, TellsTooLong, AppendsPrefix};
 
 use crate::{Failed, FileError, Files, Sink};
 use std::alloc::{AllocError, Global};
@@ -79,10 +79,10 @@ pub fn read_whole<F: Files>(
     Err(ReadError::TooLong)
 }
 
-/// Writes all the bytes, or a front of them before a fault. It takes no memory.
+/// Writes all the bytes, or a prefix of them before a fault. It takes no memory.
 pub fn write_whole<K: Sink>(out: &mut K, bytes: &[u8]) -> Result<(), Failed>
     ensures ok { OnOk result (Appends (K.taken out.old) (K.taken out.new) bytes.now) }
-    ensures err { OnErr result (AppendsFront (K.taken out.old) (K.taken out.new) bytes.now) }
+    ensures err { OnErr result (AppendsPrefix (K.taken out.old) (K.taken out.new) bytes.now) }
     ensures counted { CountsPut (K.faults out.old) (K.faults out.new) result }
 {
     let mut rest = bytes;

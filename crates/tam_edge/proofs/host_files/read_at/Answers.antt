@@ -12,4 +12,5 @@ returns-clause-counted g c =
 
 pub returns-clause-others : goal.returns-clause-others
 returns-clause-others g c = λ other ne.
-    value_by-replaced_other (λ o. o.faults) 0 c.args.name.now other ne c.args.opened.now c.args.i c.index-opened-i.result c.read_opened.new.opened c.requires.named
+    value_by-replaced_other (λ o. o.faults) 0 c.args.name.now other ne c.args.opened.now c.args.i c.index-opened-i.result c.read_opened.new.opened
+    c.requires.named

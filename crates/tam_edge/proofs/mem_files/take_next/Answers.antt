@@ -8,8 +8,8 @@ use Rattle.tam_edge.proofs.mem_files.take_next.Goals as goal
 module _ (bytes : List ℕ) (rest : ℕ) (given behind left : List ℕ) where
   taken_off : (count : ℕ) → given ≡ reverse (drop rest bytes) → left ≡ take rest bytes → count ≡ length given →
       reverse bytes ≡ take count (given ++ behind) ++ reverse left
-  taken_off count is_reversed is_front is_count =
-      rw (is_count, take-append_seam given behind, is_reversed, is_front)
+  taken_off count is_reversed is_prefix is_count =
+      rw (is_count, take-append_seam given behind, is_reversed, is_prefix)
       (sym (ap reverse (take-append-drop rest bytes)) ∙ reverse-append (take rest bytes) (drop rest bytes))
 
 -- the slice from a place on is what is left without the bytes before it
@@ -20,7 +20,7 @@ from_place place bytes =
 
 pub returns-clause-given : goal.returns-clause-given
 returns-clause-given c =
-    taken_off c.args.bytes.now.items _ c.reverse.new.self (drop c.min-count.result c.args.piece.now) c.truncate.new.self.items c.min-count.result
+    taken_off c.args.bytes.now.items _ c.reverse.new.self (drop c.at_most-count.result c.args.piece.now) c.truncate.new.self.items c.at_most-count.result
     (rw (c.reverse.ensures.after, c.copy_from_slice.ensures.after, c.deref.ensures.value, from_place) refl)
     c.truncate.ensures.items
     (search rules)

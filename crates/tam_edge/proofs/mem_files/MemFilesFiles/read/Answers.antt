@@ -24,6 +24,7 @@ returns-in-Some-clause-exact c =
       same_fail = refl;
       same_names = names-pairs_by reversed_items _ _ names;
       same_faults = refl;
+      same_most = refl;
     })
 
 pub returns-clause-counted : goal.returns-clause-counted
@@ -41,6 +42,7 @@ returns-clause-exact c =
       same_fail = refl;
       same_ends = refl;
       same_files = ap (pairs_by reversed_items) (back ∙ c.in_default.ensures.none.1 ∙ c.deref_mut.ensures.value);
+      same_most = refl;
     })
 
 pub returns-in_err-note_fault-clause-exact : goal.returns-in_err-note_fault-clause-exact
@@ -57,9 +59,10 @@ returns-in_err-note_fault-clause-exact c =
       calls = c.self.inside.calls;
       ends = c.self.inside.ends;
       faults = pairs_by (λ n. n) c.note_fault.new.faults.items;
+      most = c.self.inside.most;
     }) c.args.name.now = rw (← c.self.view_is) (record {
       to_fail = is_to_fail _ _ _ tested _ _ fails;
       first_fault = value_by-none (λ n. n) 0 c.args.name.now c.self.inside.faults.items c.in_err-note_fault.ensures.err.1;
-      unchanged = same_memory c.self.inside.fail.items c.self.inside.calls c.self.inside.ends _ _ _ _ same_files same_faults;
+      unchanged = same_memory c.self.inside.fail.items c.self.inside.calls c.self.inside.ends c.self.inside.most _ _ _ _ same_files same_faults;
     }) in
     search (rules, wants)

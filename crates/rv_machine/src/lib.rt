@@ -7,6 +7,7 @@
 
 mod arithmetic;
 mod execute;
+mod kept_instructions;
 mod memory_access;
 mod rv;
 mod rv_step;

@@ -1,21 +1,26 @@
 // The machine.
-ghost use Rattle.std.specs.Prelude.{◌≡◌, ◌<◌, ◌≤◌, ◌*◌, ◌++◌, replicate, IfOk};
+ghost use Rattle.std.specs.Prelude.{◌≡◌, ◌<◌, ◌≤◌, ◌*◌, ◌++◌, replicate, IfOk, IfErr};
 ghost use Rattle.tam_word.specs.Words.{wrapped};
-ghost use Rattle.rv_inst.specs.Harts.{reg, with_reg, gone_to, gone_on};
-ghost use Rattle.rv_inst.specs.Execution.{hart_step, jump, load_from, store_to};
+ghost use Rattle.rv_inst.specs.Harts.{Trapped, reg, with_reg, gone_to, gone_on};
+ghost use Rattle.rv_inst.specs.Execution.{hart_step, carried_out, jump, load_from, store_to};
 ghost use Rattle.rv_inst.specs.Images.{bytes_of_words, hart_opening};
 ghost use Rattle.rv_machine.specs.Answers.{answer, counted, state_after};
 
 use crate::RvStep;
 use crate::execute::carry_out;
+use crate::kept_instructions::KeptInstructions;
 use crate::memory_access::{load, load_size, store, store_size};
 use rv_image::Image;
-use rv_inst::{LoadName, Reg, StoreName, TrapCause, decode, word_at};
+use rv_inst::{Inst, LoadName, Reg, StoreName, TrapCause, decode, word_at};
 use std::alloc::Global;
 use std::marker::Model;
 use tam_edge::NoMemory;
 
-/// A machine of RV32IM: registers, pc, the bytes of the memory, and the number of steps that did not trap.
+// Of so many words, from the first on, instructions are kept: as many as a large program has, and few enough to take little memory beside a large image.
+const MOST_KEPT: usize = 1 << 20;
+
+/// A machine of RV32IM: registers, pc, the bytes of the memory, and the number of steps that did not trap. Beside these it keeps the
+/// instructions of the image's first words as they are decoded, so that each is decoded once as long as nothing is stored there.
 ///
 /// docs/MACHINE.md, "RV32IM".
 #[derive(Drop)]
@@ -24,6 +29,7 @@ pub struct Rv {
     pc: u32,
     memory: Vec<u8>,
     steps: u64,
+    kept: KeptInstructions,
 }
 
 impl Model for Rv {
@@ -34,8 +40,9 @@ impl Model for Rv {
     ghost view = { λ r. record { regs = r.regs; pc = r.pc; memory = r.memory.items; steps = r.steps } };
 
     ghost use Rattle.std.specs.Prelude.{◌≡◌, slice_index};
+    ghost use Rattle.rv_machine.specs.Keeping.{AreDecoded};
 
-    ghost invariant = { λ r. slice_index r.regs 0 ≡ 0 };
+    ghost invariant = { λ r. (slice_index r.regs 0 ≡ 0) × AreDecoded r.kept.insts.items r.memory.items };
 }
 
 impl Rv {
@@ -46,11 +53,13 @@ impl Rv {
         ensures value { IfOk result (λ rv. rv ≡ hart_opening image.now frames) }
     {
         let memory = memory_of(alloc, image, frames)?;
+        let kept = KeptInstructions::unknown(alloc, image.words().len().min(MOST_KEPT))?;
         Ok(Rv {
             regs: [0; 32],
             pc: 0,
             memory,
             steps: 0,
+            kept,
         })
     }
 
@@ -59,13 +68,40 @@ impl Rv {
         ensures value { result ≡ answer (hart_step self.old) }
         ensures after { self.new ≡ state_after self.old (hart_step self.old) }
     {
+        match self.fetch() {
+            Ok(inst) => carry_out(self, &inst),
+            Err(cause) => self.trap(cause),
+        }
+    }
+
+    // The instruction at pc, or why there is none.
+    fn fetch(&mut self) -> Result<Inst, TrapCause>
+        ensures ok { IfOk result (λ inst. hart_step self.old ≡ carried_out self.old inst) }
+        ensures err { IfErr result (λ cause. hart_step self.old ≡ Trapped self.old.pc cause) }
+        ensures same { self.new ≡ self.old }
+    {
+        match self.kept.at(self.pc) {
+            Some(inst) => Ok(inst),
+            None => self.decode_at_pc(),
+        }
+    }
+
+    // The same from the word in the memory; where it is one of the image's, the instruction is kept.
+    fn decode_at_pc(&mut self) -> Result<Inst, TrapCause>
+        ensures ok { IfOk result (λ inst. hart_step self.old ≡ carried_out self.old inst) }
+        ensures err { IfErr result (λ cause. hart_step self.old ≡ Trapped self.old.pc cause) }
+        ensures same { self.new ≡ self.old }
+    {
         let at = self.pc as usize;
         if at + 4 > self.memory.len() {
-            return self.trap(TrapCause::FetchAddress);
+            return Err(TrapCause::FetchAddress);
         }
         match decode(word_at(&self.memory, at)) {
-            None => self.trap(TrapCause::Unknown),
-            Some(inst) => carry_out(self, &inst),
+            None => Err(TrapCause::Unknown),
+            Some(inst) => {
+                self.kept.keep(self.pc, &inst);
+                Ok(inst)
+            }
         }
     }
 
@@ -168,6 +204,7 @@ impl Rv {
             return self.trap(TrapCause::StoreAddress);
         }
         store(&mut self.memory, name, address as usize, word);
+        self.kept.forget(address);
         self.go_on();
         RvStep::Done
     }
@@ -346,6 +383,36 @@ mod tests {
             cause: TrapCause::FetchAddress,
         };
         assert_eq!(rt; rv.step(), far);
+        Ok(())
+    }
+
+    // addi x5, x5, 1; a store of x6 into that word; jal x0, -8; and what then stands at address 0: addi x5, x5, 5 or 17, or no instruction
+    #[test]
+    fn a_store_into_code_changes_it(rt: HostRuntime) -> Result<(), Fail> {
+        let cases = [
+            (0x0060_2023, 0x0052_8293, RvStep::Done, 6),
+            (0x0060_1123, 0x52, RvStep::Done, 6),
+            (0x0060_01a3, 1, RvStep::Done, 18),
+            (
+                0x0060_2023,
+                0,
+                RvStep::Trap {
+                    pc: 0,
+                    cause: TrapCause::Unknown,
+                },
+                1,
+            ),
+        ];
+        for (store, word, end, sum) in cases {
+            let mut rv = machine(rt.alloc(), &[0x0012_8293, store, 0xff9f_f06f])?;
+            rv.set_reg(6, word);
+            for _ in 0..3 {
+                assert_eq!(rt; rv.step(), RvStep::Done, "at {store:#010x}");
+            }
+            assert_eq!(rt; (rv.pc(), rv.reg(5)), (0, 1), "at {store:#010x}");
+            assert_eq!(rt; rv.step(), end, "at {store:#010x}");
+            assert_eq!(rt; rv.reg(5), sum, "at {store:#010x}");
+        }
         Ok(())
     }
 }

@@ -96,6 +96,7 @@ pub record ReachedIs (most : ℕ) (p : Program) (limits : Limits) (m : Machine) 
   pub poll : Polled p limits m t
   pub counted : t.hart.steps ≤ most
 
+-- the poll behind an event is the one that the instructions of the event come to
 pub reached-is : (most : ℕ) (p : Program) (args : List ℕ) (limits : Limits) (m : Machine) (s t : Host) → MayRun p args limits → Going most p limits m s
     → (n : ℕ) → to_poll n s ≡ At_poll t → ReachedIs most p limits m t
 reached-is most p args limits m s t r w n e =
@@ -279,11 +280,13 @@ opening-goes p args order limits r =
 
 -- ---- the laws
 
+-- up to the first poll there are no more instructions than the bound of the start
 pub start-bounded : StartBounded
 start-bounded p args order limits r s e =
     (reached-is (start_bound (code_text p p.main)) p args limits (thread_opening p args order) (host_opening (image_of p) args order limits) s r
     (opening-goes p args order limits r) 16777216 e).counted
 
+-- nor from one poll to the next than the bound of the event between them
 pub polls-bounded : PollsBounded
 polls-bounded p args order limits r n m s t e g h tame =
     let i : n + 1 ≡ suc n = omega arith in
@@ -345,6 +348,7 @@ agree-from p args limits r (suc n) most m s w tame h =
     go b (Ended how u) (Next v) d t i rec = absurd d
     go b (Ended how u) (Ended end v) d t i rec = d
 
+-- as long as the thread run is tame and each poll comes in time, the two runs agree
 pub runs-agree : RunsAgree
 runs-agree p args order limits r n tame h =
     agree-from p args limits r n (start_bound (code_text p p.main)) (thread_opening p args order) (host_opening (image_of p) args order limits)

@@ -204,6 +204,7 @@ pub record LiveFrame (p : Program) (m : Machine) (s : Host) (f : ℕ) : Type 0 w
   pub inside : frame_address p f + frame_bytes (code_text p (code_at m f)) ≤ length s.hart.memory
   pub room : frame_address p f + stride_of p ≤ length s.hart.memory
 
+-- a live frame has its record, its number and its bytes
 pub live-there : (p : Program) (limits : Limits) (m : Machine) (s : Host) (f : ℕ) → Related p limits m s → is_live m.table f ≡ true → LiveFrame p m s f
 live-there p limits m s f e v =
     let h = live-frame m.table.frames f v in

@@ -297,6 +297,7 @@ switched p args limits m n s f pc a t u r e w st al i fine = go (slot m f a) ref
 
 -- ---- all of them
 
+-- each instruction of a thread leaves the two related, within its number of instructions
 pub instructs : (p : Program) (args : List ℕ) (limits : Limits) (m n : Machine) (s : Host) (f pc : ℕ) (i : Instr) → MayRun p args limits
     → RelatedAt pc p limits m s → m.table.current ≡ Some f → MayDo p (text_at p m f) i → pc % 4 ≡ 0
     → Stands s.hart.memory pc (expanded (text_at p m f).slots (start_of p (code_at m f)) (code_at m f) i)

@@ -79,6 +79,7 @@ stands-ready m at number f ts e = record {
 
 -- ---- a count is one less
 
+-- a frame with another entry count has the bytes with that count
 pub frame-counted : (p : Program) (m : List ℕ) (f c t n : ℕ) (h : Frame) → FrameHolds p m f c h → t < length (code_text p c).threads
     → slice_get h.counts t ≡ Some (suc (suc n)) → FrameHolds p (written_at m (cell_address p f c t) 4 (suc n)) f c (count_is h t (suc n))
 frame-counted p m f c t n h e l g =
@@ -125,6 +126,7 @@ frame-counted p m f c t n h e l g =
 
 -- ---- what it owes is less
 
+-- a frame that owes another number has the bytes with that number
 pub frame-owing : (p : Program) (m : List ℕ) (f c n : ℕ) (h : Frame) → FrameHolds p m f c h → 0 < n → n ≤ length (code_text p c).threads → n < 2 ^ 32
     → FrameHolds p (written_at m (frame_address p f + owed_at) 4 n) f c (owed_is h n)
 frame-owing p m f c n h e z l u =
@@ -189,6 +191,7 @@ head-small p m f c h e =
 abbrev pub unlisted_frame : Frame → List ℕ → Frame
 unlisted_frame h ts = record h { ready = ts }
 
+-- a frame whose first ready thread is gone has the bytes with the next one at the head
 pub frame-unlisted : (p : Program) (m : List ℕ) (f c t : ℕ) (ts : List ℕ) (h : Frame) → FrameHolds p m f c h → h.ready ≡ t ∷ ts
     → FrameHolds p (written_at m (frame_address p f + head_at) 4 (read_at m (cell_address p f c t + next_at) 4)) f c (unlisted_frame h ts)
 frame-unlisted p m f c t ts h e q =
@@ -247,6 +250,7 @@ pub record LinkedWords (m : List ℕ) (frame cell start head : ℕ) (k : List �
   pub next : read_at k (cell + next_at) 4 ≡ head
   pub starts : read_at k cell 4 ≡ start
 
+-- the words of a cell that goes to the head of a list lie in the memory
 pub linked-words : (m : List ℕ) (frame cell start head : ℕ) → frame + slots_at ≤ cell → cell + 8 ≤ length m → length m < 2 ^ 32 → start < 2 ^ 32 → head < 2 ^ 32
     → LinkedWords m frame cell start head (linked m frame cell start head)
 linked-words m frame cell start head l i sm us uh =
@@ -280,6 +284,7 @@ has-first t u ts e = go (has-in (t ∷ ts) u e)
     go (inl i) = inl i
     go (inr i) = inr (in-has ts u i)
 
+-- a frame with one more ready thread has the bytes with its cell at the head
 pub frame-linked : (p : Program) (m : List ℕ) (f c t : ℕ) (h : Frame) → FrameHolds p m f c h → t < length (code_text p c).threads
     → slice_get h.counts t ≡ Some 1 → start_of p c t < 2 ^ 32
     → FrameHolds p (linked m (frame_address p f) (cell_address p f c t) (start_of p c t) (read_at m (frame_address p f + head_at) 4)) f c (linked_frame h t)

@@ -112,6 +112,7 @@ gone-from n zero (Some h ∷ hs) e =
 gone-from n (suc f) (None ∷ hs) e = gone-from (n + 0) f hs e
 gone-from n (suc f) (Some h ∷ hs) e = gone-from (n + 1) f hs e
 
+-- where a frame that is there is gone, one less is there
 pub gone-count : (hs : List (Option Frame)) (f : ℕ) → is_some_frame (slice_get hs f) ≡ true → count_by is_held (slice_set hs f None) + 1 ≡ count_by is_held hs
 gone-count hs f e = gone-from 0 f hs e
 

@@ -110,7 +110,13 @@ beginning-ranged = (
                       (omega arith, omega arith, inl (omega arith)),
                       (
                         (omega arith, omega arith, inl (omega arith)),
-                        ((omega arith, omega arith, omega arith), ((omega arith, omega arith, inl (omega arith)), ((omega arith, inl (omega arith), refl), tt))),
+                        (
+                          (omega arith, omega arith, omega arith),
+                          (
+                            (omega arith, omega arith, inl (omega arith)),
+                            ((omega arith, inl (omega arith), refl), tt),
+                          ),
+                        ),
                       ),
                     ),
                   ),
@@ -251,7 +257,13 @@ running-ranged = (
             (omega arith, omega arith, inl (omega arith)),
             (
               (omega arith, omega arith, inl (omega arith)),
-              ((omega arith, omega arith, inl (omega arith)), ((omega arith, omega arith, inl (omega arith)), ((omega arith, omega arith, inl (omega arith)), tt))),
+              (
+                (omega arith, omega arith, inl (omega arith)),
+                (
+                  (omega arith, omega arith, inl (omega arith)),
+                  ((omega arith, omega arith, inl (omega arith)), tt),
+                ),
+              ),
             ),
           ),
         ),

@@ -71,6 +71,7 @@ pub record Posting (p : Program) (limits : Limits) (m : Machine) (s : Host) (f t
   pub cell_in : cell_address p f (code_at m f) t + 8 ≤ frame_address p f + stride_of p
   pub back_aligned : back % 4 ≡ 0
 
+-- where a thread is spent, all that the routine needs stands in the registers and in the memory
 pub posting-there : (p : Program) (args : List ℕ) (limits : Limits) (m : Machine) (s : Host) (f t back : ℕ) → MayRun p args limits
     → RelatedAt post_at p limits m s → reg s.hart 10 ≡ frame_address p f → reg s.hart 11 ≡ cell_address p f (code_at m f) t
     → reg s.hart 12 ≡ start_of p (code_at m f) t → reg s.hart 1 ≡ back → t < length (text_at p m f).threads → back % 4 ≡ 0 → back < 2 ^ 32
@@ -122,6 +123,7 @@ returns-base n h pc m q = record { as_many = q.many; same = λ r k. q.others r (
 
 -- ---- the count was 2 or more
 
+-- where some of the count is left, the routine comes back with the count one less
 pub left-spends : (p : Program) (limits : Limits) (m : Machine) (s : Host) (f t back c : ℕ) (a : Posting p limits m s f t back)
     → slice_get a.live.frame.counts t ≡ Some (suc (suc c)) → read_at s.hart.memory (cell_address p f (code_at m f) t) 4 ≡ suc (suc c)
     → ComesTo 16 back p limits s (record m { table = with_count m.table f t (suc c) })

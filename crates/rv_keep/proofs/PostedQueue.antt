@@ -64,6 +64,7 @@ frames-queued p limits m s f t back a g =
           (omega arith);
     }
 
+-- where a frame joins the queue, the links lead through the queue with it at the end
 pub links-queued : (p : Program) (limits : Limits) (m : Machine) (s : Host) (f t back : ℕ) (a : Posting p limits m s f t back)
     → LinksQueued p s f (written_at (listed p m s f t) (frame_address p f) 4 0)
 links-queued p limits m s f t back a =
@@ -132,6 +133,7 @@ pub record LinkPlace (p : Program) (m : Machine) (s : Host) (g : ℕ) : Type 0 w
   pub behind : post_end ≤ frame_address p g
   pub inside : frame_address p g + 4 ≤ length s.hart.memory
 
+-- a frame in the queue has a place for its link
 pub link-place : (p : Program) (limits : Limits) (m : Machine) (s : Host) (g : ℕ) → Related p limits m s → has m.table.queue g ≡ true → LinkPlace p m s g
 link-place p limits m s g e q =
     let h : LiveFrame p m s g = live-there p limits m s g e (e.turns.queued_live g q) in

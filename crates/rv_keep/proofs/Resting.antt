@@ -76,6 +76,7 @@ rested-more s f t ts c e = ap (λ (x : Option ℕ). current_of s x) c ∙ (go (f
     go [] i = absurd cc
     go (u ∷ us) i = refl
 
+-- where the current frame has no ready thread, none is current any more
 pub rested-none : (s : FrameTable) (f : ℕ) → s.current ≡ Some f → (frame_at s f).ready ≡ [] → current_of s s.current ≡ None
 rested-none s f c e = ap (λ (x : Option ℕ). current_of s x) c ∙ go (frame_at s f).ready e
   where
@@ -191,6 +192,7 @@ five-kept n h pc memory g l = base-goes n h pc (5 ∷ []) [] memory g l away
         apart (inl j) = subst (λ (y : ℕ). has base_regs y ≡ false) j refl
         apart (inr j) = absurd j
 
+-- a thread that stops in a frame that owes more leaves the two related
 pub stops-owing : (p : Program) (args : List ℕ) (limits : Limits) (m : Machine) (s : Host) (f n : ℕ) → MayRun p args limits
     → RelatedAt stop_at p limits m s → m.table.current ≡ Some f → (frame_at m.table f).owed ≡ suc (suc n) → ComesTo 4 rest_at p limits s (owing_less m f 1)
 stops-owing p args limits m s f n r e c o =

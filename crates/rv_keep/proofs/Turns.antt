@@ -84,6 +84,7 @@ ready-other s f g change n = ap (λ x. (or_frame x).ready) (changed-other s.fram
 pub queue-current : (s : FrameTable) (f : ℕ) → is_current s.current f ≡ true → queue_with s f ≡ s.queue
 queue-current s f e = rw (queue_with, e) refl
 
+-- a frame that is in the queue joins it no more
 pub queue-queued : (s : FrameTable) (f : ℕ) → has s.queue f ≡ true → queue_with s f ≡ s.queue
 queue-queued s f e = go (is_current s.current f)
   where
@@ -95,6 +96,7 @@ queue-queued s f e = go (is_current s.current f)
     go true = refl
     go false = inside (is_queued s.queue f) (queued-has s.queue f ∙ e)
 
+-- a frame that is neither current nor in the queue joins it at its end
 pub queue-behind : (s : FrameTable) (f : ℕ) → is_current s.current f ≡ false → has s.queue f ≡ false → queue_with s f ≡ s.queue ++ f ∷ []
 queue-behind s f c e = let q : is_queued s.queue f ≡ false = queued-has s.queue f ∙ e in rw (queue_with, c, q) refl
 

@@ -12,3 +12,6 @@ pub mod Agreeing
 pub mod NoTraps
 pub mod RunEnds
 pub mod Reporting
+pub mod LiveRuns
+pub mod FilesRead
+pub mod GraphTimes

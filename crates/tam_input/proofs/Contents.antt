@@ -57,7 +57,8 @@ pub order-kept : (job : JobParts) (a b : Contents) (order : List Item) → ((fil
     → IsOrder job a order → IsOrder job b order
 order-kept job a b order same (from_words is) = from_words is
 order-kept job a b order same (from_file {file} is few list) =
-    from_file is (subst (λ bytes. length bytes ≤ most_order_bytes) (sym (same file is)) few) (subst (λ bytes. order_of bytes ≡ Ok order) (sym (same file is)) list)
+    from_file is (subst (λ bytes. length bytes ≤ most_order_bytes) (sym (same file is)) few)
+    (subst (λ bytes. order_of bytes ≡ Ok order) (sym (same file is)) list)
 
 -- the file whose text is read isn't the order file
 pub text-differs : (job : JobParts) (text file : List ℕ) → text_file job ≡ Some text → job.order_file ≡ Some file → ¬ (file ≡ text)

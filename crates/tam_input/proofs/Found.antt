@@ -132,7 +132,8 @@ module _ (job : JobParts) (before : Told) where
         let c = found.0 in (
           put_in c text at.0,
           put-agrees c text at.0 before.left found.1 at.1,
-          order-kept job c (put_in c text at.0) order (λ file named. put-other c text at.0 file (λ same. text-differs job text file is named (sym same))) found.2,
+          order-kept job c (put_in c text at.0) order (λ file named. put-other c text at.0 file
+              (λ same. text-differs job text file is named (sym same))) found.2,
           subst P (sym (put-here c text at.0)) at.2,
         )
 

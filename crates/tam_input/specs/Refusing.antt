@@ -59,13 +59,17 @@ most_order_bytes = 1048576
 abbrev pub most_bytes : Mode → ℕ
 most_bytes mode.Graph = 1048576
 most_bytes mode.Tl0 = 1048576
+most_bytes mode.Rv32 = 1048576
 most_bytes mode.Check = 1048576
 most_bytes mode.EmitDg = 1048576
 most_bytes mode.Sets = 1048576
 most_bytes mode.Parts = 1048576
 most_bytes mode.EmitTl0 = 1048576
+most_bytes mode.EmitAsm = 1048576
+most_bytes mode.EmitImage = 1048576
 most_bytes mode.Assemble = 67108864
 most_bytes mode.ExecTl0 = 67108864
+most_bytes mode.ExecRv32 = 67108864
 most_bytes mode.Make = 0
 
 -- a file, but for one that was read already

@@ -17,7 +17,7 @@ use tam_words::{Job, Mode, read_words};
 // The most bytes of an order file and of a graph's text.
 const MOST_BYTES: u32 = 1_048_576;
 
-// The most bytes of a text of thread code, and of an assembly text.
+// The most bytes of a text of thread code, of an assembly text and of an image.
 const MOST_CODE_BYTES: u32 = 67_108_864;
 
 /// A job with its order list and the bytes of its file.
@@ -45,7 +45,8 @@ pub fn read_input<F: Files>(
         (told F.left F.faults F.ends files.old) (told F.left F.faults F.ends files.new) refusal)) }
 
     // Nothing changes of a file that isn't named, and what is answered was read to its end.
-    ensures files { KeepsNamed (Names (asked (map string_bytes words.now))) (told F.left F.faults F.ends files.old) (told F.left F.faults F.ends files.new) (IsFault result) }
+    ensures files { KeepsNamed (Names (asked (map string_bytes words.now))) (told F.left F.faults F.ends files.old)
+        (told F.left F.faults F.ends files.new) (IsFault result) }
     ensures read_out { IfOk result (λ _. ReadsOut (Names (asked (map string_bytes words.now))) (F.left files.old) (F.left files.new)) }
 {
     let job = read_words(alloc, words)?;
@@ -74,8 +75,10 @@ fn read_order<F: Files>(alloc: Global, job: &mut Job, files: &mut F) -> Result<O
     ensures found { IfOk result (λ order. ForSome (F.left files.old) (λ contents. IsOrder job.old contents order)) }
     ensures refused { IfErr result (λ refusal. ForSome (F.left files.old) (λ contents. Refuses (Asks job.old) contents
         (told F.left F.faults F.ends files.old) (told F.left F.faults F.ends files.new) refusal)) }
-    ensures ended { IfOk result (λ _. GivesEnds (told F.left F.faults F.ends files.old) (told F.left F.faults F.ends files.new) (file_count job.old.order_file)) }
-    ensures files { KeepsNamed (λ file. job.old.order_file ≡ Some file) (told F.left F.faults F.ends files.old) (told F.left F.faults F.ends files.new) (IsFault result) }
+    ensures ended { IfOk result (λ _. GivesEnds (told F.left F.faults F.ends files.old) (told F.left F.faults F.ends files.new)
+        (file_count job.old.order_file)) }
+    ensures files { KeepsNamed (λ file. job.old.order_file ≡ Some file) (told F.left F.faults F.ends files.old)
+        (told F.left F.faults F.ends files.new) (IsFault result) }
     ensures read_out { IfOk result (λ _. ReadsOut (λ file. job.old.order_file ≡ Some file) (F.left files.old) (F.left files.new)) }
 {
     let order = job.take_order();
@@ -102,10 +105,13 @@ fn read_text<F: Files>(alloc: Global, job: &Job, files: &mut F) -> Result<Vec<u8
     ensures few { IfOk result (λ text. length text.items ≤ most_bytes job.now.mode) }
     ensures content { IfOk result (λ text. IsTextOf (F.left files.old) (text_file job.now) text.items) }
     ensures read_out { IfOk result (λ _. ReadsOut (λ file. text_file job.now ≡ Some file) (F.left files.old) (F.left files.new)) }
-    ensures refused { IfErr result (λ refusal. RefusesText (told F.left F.faults F.ends files.old) (told F.left F.faults F.ends files.new) (text_file job.now) (most_bytes job.now.mode) refusal) }
-    ensures ended { IfOk result (λ _. GivesEnds (told F.left F.faults F.ends files.old) (told F.left F.faults F.ends files.new) (file_count (text_file job.now))) }
+    ensures refused { IfErr result (λ refusal. RefusesText (told F.left F.faults F.ends files.old) (told F.left F.faults F.ends files.new) (text_file job.now)
+        (most_bytes job.now.mode) refusal) }
+    ensures ended { IfOk result (λ _. GivesEnds (told F.left F.faults F.ends files.old) (told F.left F.faults F.ends files.new)
+        (file_count (text_file job.now))) }
     ensures endless { IfErr result (λ _. GivesEnds (told F.left F.faults F.ends files.old) (told F.left F.faults F.ends files.new) 0) }
-    ensures files { KeepsNamed (λ file. text_file job.now ≡ Some file) (told F.left F.faults F.ends files.old) (told F.left F.faults F.ends files.new) (IsFault result) }
+    ensures files { KeepsNamed (λ file. text_file job.now ≡ Some file) (told F.left F.faults F.ends files.old) (told F.left F.faults F.ends files.new)
+        (IsFault result) }
 {
     match text_file(job) {
         Some(file) => read_file(alloc, file, most_bytes(job.mode()), files),
@@ -147,12 +153,15 @@ fn most_bytes(mode: Mode) -> u32
     match mode {
         Mode::Graph
         | Mode::Tl0
+        | Mode::Rv32
         | Mode::Check
         | Mode::EmitDg
         | Mode::Sets
         | Mode::Parts
-        | Mode::EmitTl0 => MOST_BYTES,
-        Mode::Assemble | Mode::ExecTl0 => MOST_CODE_BYTES,
+        | Mode::EmitTl0
+        | Mode::EmitAsm
+        | Mode::EmitImage => MOST_BYTES,
+        Mode::Assemble | Mode::ExecTl0 | Mode::ExecRv32 => MOST_CODE_BYTES,
         Mode::Make => 0,
     }
 }
@@ -167,7 +176,8 @@ fn read_file<F: Files>(
     ensures few { IfOk result (λ bytes. length bytes.items ≤ most) }
     ensures content { IfOk result (λ bytes. OfSome (F.left files.old file.now) (λ content. bytes.items ≡ content)) }
     ensures read_out { IfOk result (λ _. IsReadOut (F.left files.old file.now) (F.left files.new file.now)) }
-    ensures refused { IfErr result (λ refusal. RefusesFile (told F.left F.faults F.ends files.old) (told F.left F.faults F.ends files.new) file.now most refusal) }
+    ensures refused { IfErr result (λ refusal. RefusesFile (told F.left F.faults F.ends files.old) (told F.left F.faults F.ends files.new) file.now
+        most refusal) }
     ensures ended { CountsEndWhole (F.ends files.old) (F.ends files.new) result }
     ensures files { KeepsNamed (λ other. file.now ≡ other) (told F.left F.faults F.ends files.old) (told F.left F.faults F.ends files.new) (IsFault result) }
 {

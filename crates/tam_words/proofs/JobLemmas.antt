@@ -1,16 +1,8 @@
--- What words ask for, case by case.
-use Rattle.std.proofs.Common.{◌≡◌, ◌<◌, ◌^◌, ℕ, zero, suc, List, [], ◌∷◌, refl, length, map, get_or, slice_get, Some, Option, subst, arith}
-use Rattle.std.specs.Prelude.{String}
-use Rattle.std.specs.declared.alloc.Global.{Global}
-use Rattle.std.specs.String.{string_bytes}
-use Rattle.tam_words.specs.declared.usage_cause.UsageCause.TheVariants.{Words}
-use Rattle.tam_words.specs.Jobs.{asked, Usage}
-
--- fewer than two words
-pub few_words : (words : List (String Global)) → length words < 2 → asked (map string_bytes words) ≡ Usage Words
-few_words [] h = refl
-few_words (v ∷ []) h = refl
-few_words (v ∷ w ∷ more) h = absurd (omega (arith, h))
+-- Lists: numbers that are words, and what stands behind the first element.
+use Rattle.std.proofs.Common.{◌≡◌, ◌<◌, ◌^◌, ℕ, zero, suc, List, [], ◌∷◌, length, get_or, slice_get, Some, Option, subst}
+use Rattle.std.proofs.Common.{arith, Bool, false, ap, take, drop, ◌-◌, ◌≤◌}
+use Rattle.std.specs.List.{find}
+use Rattle.std.proofs.lemmas.List.{take_all}
 
 -- some number is one number
 some-is : (a b : ℕ) → ◌≡◌ {A = Option ℕ} (Some a) (Some b) → a ≡ b
@@ -21,3 +13,9 @@ pub words_below : (xs : List ℕ) → ((k : ℕ) → get_or xs k 0 < 2 ^ 32) →
 words_below [] h k w e = absurd (cc)
 words_below (x ∷ xs) h zero w e = subst (λ n. n < 2 ^ 32) (some-is x w e) (h 0)
 words_below (x ∷ xs) h (suc k) w e = words_below xs (λ j. h (suc j)) k w e
+
+-- what doesn't stand first is found behind the first
+pub find-behind : {X : Type 0} (p : X → Bool) (xs : List X) (d : X) → 1 ≤ length xs → p (get_or xs 0 d) ≡ false
+    → find p (take (length xs - 1) (drop 1 xs)) ≡ find p xs
+find-behind p [] d some miss = absurd (omega (arith, some))
+find-behind p (x ∷ xs) d some miss = rw miss (ap (find p) (take_all (length (x ∷ xs) - 1) xs (omega arith)))

@@ -1,7 +1,7 @@
 -- What a job that words ask for is like: its limits are in their ranges, its arguments are words, and what it is to make may be made.
 use Rattle.std.proofs.Common.{◌≡◌, ◌<◌, ◌≤◌, ◌^◌, ℕ, zero, suc, Bool, true, false, not, ◌&&◌, ◌==◌, List, [], ◌∷◌, refl, ap, subst, length}
 use Rattle.std.proofs.Common.{slice_get, nat_lt, nat_le, ◌-◌, ◌%◌, arith, leb-true, true≢false, sym, ◌∙◌}
-use Rattle.std.specs.Prelude.{Option, None, Some, Result, Ok, Err, unwrap_or}
+use Rattle.std.specs.Prelude.{Option, None, Some, Result, Ok, Err, unwrap_or, codes}
 use Rattle.std.specs.List.{slice_split}
 use Rattle.tam_word.specs.Numbers.{word_of, decimal_up_to, negative_of, hexadecimal_of, some_if, are_digits, number_behind}
 use Rattle.tam_word.proofs.Tests.{both-true, test-below}
@@ -13,15 +13,15 @@ use Rattle.tam_make.specs.MadeTexts.{IsCount, largest}
 use Rattle.tam_msgs.specs.declared.limits.Limits.{Limits}
 use Rattle.tam_msgs.specs.Messages.{AreLimits}
 use Rattle.tam_words.specs.declared.mode.Mode.{Mode}
-use Rattle.tam_words.specs.declared.setting.Setting.TheVariants.{Args as Set_args, Order as Set_order, OrderFile as Set_order_file}
-use Rattle.tam_words.specs.declared.setting.Setting.TheVariants.{Budget as Set_budget, Frames as Set_frames, Cells as Set_cells}
 use Rattle.tam_words.specs.declared.usage_cause.UsageCause.{UsageCause}
 use Rattle.tam_words.specs.declared.usage_cause.UsageCause.TheVariants.{Words, Mode as Unknown_mode, Extra, Shape as Unknown_shape, Count}
 use Rattle.tam_words.specs.declared.usage_cause.UsageCause.TheVariants.{Args, Order, Budget, Frames, Cells}
 use Rattle.tam_words.specs.Names.{mode_of, shape_of, makes}
-use Rattle.tam_words.specs.Options.{given, all_words, args_of, is_comma, short_order_of, at_least, limit_of, usual_limits, count_of}
-use Rattle.tam_words.specs.Jobs.{JobParts, job_parts, IsMakeable, Asked, Job, asks_with, some_or, holds_or, is_plain, is_extra, limits_of, job_of, made_job_of}
-use Rattle.tam_words.specs.Jobs.{may_follow, asked}
+use Rattle.clap.specs.Words.{Row}
+use Rattle.tam_words.specs.Command.{given, is_matched, matches}
+use Rattle.tam_words.specs.Options.{all_words, args_of, is_comma, short_order_of, at_least, limit_of, usual_limits, count_of}
+use Rattle.tam_words.specs.Jobs.{JobParts, job_parts, IsMakeable, Asked, Job, asks_with, some_or, holds_or, is_extra, limits_of, job_of, made_job_of}
+use Rattle.tam_words.specs.Jobs.{mode_job_of, asked}
 
 -- ---- words
 
@@ -130,16 +130,16 @@ small-largest : (shape : Shape) → largest shape < 2 ^ 64
 small-largest Ladder = omega arith
 small-largest Wave = omega arith
 
--- a count that words give a shape is one that it may have
-count-in-range : (shape : Shape) (words : List (List ℕ)) (n : ℕ) → count_of shape words ≡ Some n → IsCount shape n
-count-in-range shape [] n e = absurd (cc)
-count-in-range shape (word ∷ words) n e = go (decimal_up_to (largest shape) word) refl e
+-- a count that a text gives a shape is one that it may have
+count-in-range : (shape : Shape) (text : Option (List ℕ)) (n : ℕ) → count_of shape text ≡ Some n → IsCount shape n
+count-in-range shape None n e = absurd (cc)
+count-in-range shape (Some text) n e = go (decimal_up_to (largest shape) text) refl e
   where
-    go : (o : Option ℕ) → decimal_up_to (largest shape) word ≡ o → at_least 1 o ≡ Some n → IsCount shape n
+    go : (o : Option ℕ) → decimal_up_to (largest shape) text ≡ o → at_least 1 o ≡ Some n → IsCount shape n
     go None f h = absurd (cc)
     go (Some m) f h =
         let p = least-there 1 n m h in
-        let l = (decimal_up_to-is (largest shape) word m (small-largest shape) f).1 in
+        let l = (decimal_up_to-is (largest shape) text m (small-largest shape) f).1 in
         (omega (arith, p.0), omega (arith, l, p.1))
 
 -- ---- jobs
@@ -162,14 +162,14 @@ some-there cause (Some y) x e = ap Some (ok-is y x e)
 limits-is : (a b : Limits) → ◌≡◌ {A = Result Limits UsageCause} (Ok a) (Ok b) → a ≡ b
 limits-is a b e = cc
 
--- limits that options set are in their ranges
-limits-in-range : (options : List (List ℕ)) (limits : Limits) → limits_of options ≡ Ok limits → AreLimits limits
-limits-in-range options limits e =
-    go (limit_of 1000000 0 4294967295 (given Set_budget options)) (limit_of 4096 1 16384 (given Set_frames options))
-    (limit_of 1048576 0 4194304 (given Set_cells options)) refl refl refl e
+-- limits that rows set are in their ranges
+limits-in-range : (rows : List Row) (limits : Limits) → limits_of rows ≡ Ok limits → AreLimits limits
+limits-in-range rows limits e =
+    go (limit_of 1000000 0 4294967295 (given (codes "budget") rows)) (limit_of 4096 1 16384 (given (codes "frames") rows))
+    (limit_of 1048576 0 4194304 (given (codes "cells") rows)) refl refl refl e
   where
-    go : (b f c : Option ℕ) → limit_of 1000000 0 4294967295 (given Set_budget options) ≡ b → limit_of 4096 1 16384 (given Set_frames options) ≡ f
-        → limit_of 1048576 0 4194304 (given Set_cells options) ≡ c
+    go : (b f c : Option ℕ) → limit_of 1000000 0 4294967295 (given (codes "budget") rows) ≡ b → limit_of 4096 1 16384 (given (codes "frames") rows) ≡ f
+        → limit_of 1048576 0 4194304 (given (codes "cells") rows) ≡ c
         → ◌≡◌ {A = Result Limits UsageCause} (elim b [
           | None ↦ Err Budget
           | Some m ↦ elim f [
@@ -184,9 +184,9 @@ limits-in-range options limits e =
     go (Some b) None c p q r h = absurd (cc)
     go (Some b) (Some f) None p q r h = absurd (cc)
     go (Some b) (Some f) (Some c) p q r h =
-        let x = limit-in-range 1000000 0 4294967295 (given Set_budget options) b (omega arith) (omega arith) (omega arith) p in
-        let y = limit-in-range 4096 1 16384 (given Set_frames options) f (omega arith) (omega arith) (omega arith) q in
-        let z = limit-in-range 1048576 0 4194304 (given Set_cells options) c (omega arith) (omega arith) (omega arith) r in
+        let x = limit-in-range 1000000 0 4294967295 (given (codes "budget") rows) b (omega arith) (omega arith) (omega arith) p in
+        let y = limit-in-range 4096 1 16384 (given (codes "frames") rows) f (omega arith) (omega arith) (omega arith) q in
+        let z = limit-in-range 1048576 0 4194304 (given (codes "cells") rows) c (omega arith) (omega arith) (omega arith) r in
         let set : Limits = record { budget = b; frames = f; cells = c } in
         subst AreLimits (limits-is set limits h)
         (record { some_frame = omega (arith, y.0); few_frames = y.1; few_cells = z.1; budget = omega (arith, x.1) })
@@ -202,47 +202,53 @@ pub record IsRightJob (job : JobParts) : Type 0 where
 parts-are : (a b : JobParts) → Job a ≡ Job b → a ≡ b
 parts-are a b e = cc
 
--- a job of options is right
-job-right : (mode : Mode) (name : List ℕ) (options : List (List ℕ)) (job : JobParts) → makes mode ≡ false → job_of mode name options ≡ Job job → IsRightJob job
-job-right mode name options job reads e =
-    let a = with-value (some_or Args (args_of (unwrap_or (given Set_args options) []))) _ job e in
-    let o = with-value (some_or Order (short_order_of (unwrap_or (given Set_order options) []))) _ job a.2 in
-    let l = with-value (limits_of options) _ job o.2 in
-    let made = job_parts mode name 0 a.0 o.0 (given Set_order_file options) l.0 in
+-- a job of rows is right
+job-right : (mode : Mode) (name : List ℕ) (rows : List Row) (job : JobParts) → makes mode ≡ false → job_of mode name rows ≡ Job job → IsRightJob job
+job-right mode name rows job reads e =
+    let a = with-value (some_or Args (args_of (unwrap_or (given (codes "args") rows) []))) _ job e in
+    let o = with-value (some_or Order (short_order_of (unwrap_or (given (codes "order") rows) []))) _ job a.2 in
+    let l = with-value (limits_of rows) _ job o.2 in
+    let made = job_parts mode name 0 a.0 o.0 (given (codes "order-file") rows) l.0 in
     subst IsRightJob (parts-are made job l.2)
     (record {
-      limits_in_range = limits-in-range options l.0 l.1;
-      args_are_words = args-below (unwrap_or (given Set_args options) []) a.0 (some-there Args _ a.0 a.1);
+      limits_in_range = limits-in-range rows l.0 l.1;
+      args_are_words = args-below (unwrap_or (given (codes "args") rows) []) a.0 (some-there Args _ a.0 a.1);
       makeable = λ m. absurd (true≢false (sym m ∙ reads));
       no_order_file = λ m. absurd (true≢false (sym m ∙ reads));
     })
 
 -- and so is one that makes its input
-made-right : (mode : Mode) (name : List ℕ) (words : List (List ℕ)) (job : JobParts) → made_job_of mode name words ≡ Job job → IsRightJob job
-made-right mode name words job e =
+made-right : (mode : Mode) (name : List ℕ) (rows : List Row) (job : JobParts) → made_job_of mode name rows ≡ Job job → IsRightJob job
+made-right mode name rows job e =
     let s = with-value (some_or Unknown_shape (shape_of name)) _ job e in
-    let c = with-value (some_or Count (count_of s.0 words)) _ job s.2 in
+    let c = with-value (some_or Count (count_of s.0 (given (codes "count") rows))) _ job s.2 in
     let made = job_parts mode name c.0 [] [] None usual_limits in
     let shape = some-there Unknown_shape (shape_of name) s.0 s.1 in
     subst IsRightJob (parts-are made job c.2)
     (record {
       limits_in_range = record { some_frame = omega arith; few_frames = omega arith; few_cells = omega arith; budget = omega arith };
       args_are_words = none-there;
-      makeable = λ m. subst (λ o. IsMakeable o c.0) (sym shape) (count-in-range s.0 words c.0 (some-there Count _ c.0 c.1));
+      makeable = λ m. subst (λ o. IsMakeable o c.0) (sym shape) (count-in-range s.0 (given (codes "count") rows) c.0 (some-there Count _ c.0 c.1));
       no_order_file = λ m. refl;
     })
 
+-- and a mode's
+mode-right : (mode : Mode) (name : List ℕ) (rows : List Row) (job : JobParts) → mode_job_of mode name rows ≡ Job job → IsRightJob job
+mode-right mode name rows job e =
+    let x = with-value (holds_or Extra (not (is_extra mode rows))) _ job e in
+    go (makes mode) refl x.2
+  where
+    go : (t : Bool) → makes mode ≡ t → (elim t [ true ↦ made_job_of mode name rows | false ↦ job_of mode name rows ]) ≡ Job job → IsRightJob job
+    go true t h = made-right mode name rows job h
+    go false t h = job-right mode name rows job t h
+
 -- a job that words ask for is right
 pub asked-right : (words : List (List ℕ)) (job : JobParts) → asked words ≡ Job job → IsRightJob job
-asked-right [] job e = absurd (cc)
-asked-right (mode ∷ []) job e = absurd (cc)
-asked-right (mode ∷ name ∷ words) job e =
-    let a = with-value (holds_or Words (is_plain mode && is_plain name && may_follow (mode_of mode) words)) _ job e in
-    let m = with-value (some_or Unknown_mode (mode_of mode)) _ job a.2 in
-    go m.0 (makes m.0) refl m.2
-  where
-    go : (m : Mode) (t : Bool) → makes m ≡ t
-        → (elim t [ true ↦ made_job_of m name words | false ↦ asks_with (holds_or Extra (not (is_extra m words))) (λ _. job_of m name words) ]) ≡ Job job
-        → IsRightJob job
-    go m true t h = made-right m name words job h
-    go m false t h = let x = with-value (holds_or Extra (not (is_extra m words))) _ job h in job-right m name words job t x.2
+unfolding asked
+asked-right words job e =
+    let all = with-value (holds_or Words (is_matched words)) _ job e in
+    let rows = matches words in
+    let word = with-value (some_or Words (given (codes "mode") rows)) _ job all.2 in
+    let name = with-value (some_or Words (given (codes "name") rows)) _ job word.2 in
+    let mode = with-value (some_or Unknown_mode (mode_of word.0)) _ job name.2 in
+    mode-right mode.0 name.0 rows job mode.2

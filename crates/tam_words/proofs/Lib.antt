@@ -1,3 +1,4 @@
-pub mod GivenValues
+pub mod CommandLemmas
 pub mod JobLemmas
 pub mod JobParts
+pub mod WordFacts

@@ -1,4 +1,5 @@
 pub mod Names
+pub mod Command
 pub mod Options
 pub mod Jobs
 pub mod Tells

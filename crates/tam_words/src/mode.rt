@@ -10,45 +10,58 @@ ghost use Rattle.tam_words.specs.Names.{makes, mode_name, mode_of, reads_file, r
 pub enum Mode {
     Graph,
     Tl0,
+    Rv32,
     Check,
     EmitDg,
     Sets,
     Parts,
     EmitTl0,
+    EmitAsm,
+    EmitImage,
     Assemble,
     ExecTl0,
+    ExecRv32,
     Make,
 }
 
 /// Every mode, in the order of `Mode`.
-pub const MODES: [Mode; 10] = [
+pub const MODES: [Mode; 14] = [
     Mode::Graph,
     Mode::Tl0,
+    Mode::Rv32,
     Mode::Check,
     Mode::EmitDg,
     Mode::Sets,
     Mode::Parts,
     Mode::EmitTl0,
+    Mode::EmitAsm,
+    Mode::EmitImage,
     Mode::Assemble,
     Mode::ExecTl0,
+    Mode::ExecRv32,
     Mode::Make,
 ];
 
 impl Mode {
     /// The word that names the mode.
+    #[tactic(auto, unfolding(crate::specs::Names::mode_name))]
     pub fn name(self) -> &'static [u8]
         ensures value { result.now ≡ mode_name self }
     {
         match self {
             Mode::Graph => b"graph",
             Mode::Tl0 => b"tl0",
+            Mode::Rv32 => b"rv32",
             Mode::Check => b"check",
             Mode::EmitDg => b"emit-dg",
             Mode::Sets => b"sets",
             Mode::Parts => b"parts",
             Mode::EmitTl0 => b"emit-tl0",
+            Mode::EmitAsm => b"emit-asm",
+            Mode::EmitImage => b"emit-image",
             Mode::Assemble => b"assemble",
             Mode::ExecTl0 => b"exec-tl0",
+            Mode::ExecRv32 => b"exec-rv32",
             Mode::Make => b"make",
         }
     }
@@ -58,14 +71,16 @@ impl Mode {
         ensures value { result ≡ runs self }
     {
         match self {
-            Mode::Graph | Mode::Tl0 | Mode::ExecTl0 => true,
+            Mode::Graph | Mode::Tl0 | Mode::Rv32 | Mode::ExecTl0 | Mode::ExecRv32 => true,
             Mode::Check
             | Mode::EmitDg
             | Mode::Sets
             | Mode::Parts
             | Mode::EmitTl0
+            | Mode::EmitAsm
+            | Mode::EmitImage
             | Mode::Assemble
-            | Mode::Make => { false }
+            | Mode::Make => false,
         }
     }
 
@@ -77,13 +92,17 @@ impl Mode {
             Mode::Make => true,
             Mode::Graph
             | Mode::Tl0
+            | Mode::Rv32
             | Mode::Check
             | Mode::EmitDg
             | Mode::Sets
             | Mode::Parts
             | Mode::EmitTl0
+            | Mode::EmitAsm
+            | Mode::EmitImage
             | Mode::Assemble
-            | Mode::ExecTl0 => false,
+            | Mode::ExecTl0
+            | Mode::ExecRv32 => false,
         }
     }
 
@@ -92,21 +111,26 @@ impl Mode {
         ensures value { result ≡ reads_file self }
     {
         match self {
+            Mode::Make => false,
             Mode::Graph
             | Mode::Tl0
+            | Mode::Rv32
             | Mode::Check
             | Mode::EmitDg
             | Mode::Sets
             | Mode::Parts
             | Mode::EmitTl0
+            | Mode::EmitAsm
+            | Mode::EmitImage
             | Mode::Assemble
-            | Mode::ExecTl0 => true,
-            Mode::Make => false,
+            | Mode::ExecTl0
+            | Mode::ExecRv32 => true,
         }
     }
 }
 
 /// The mode that a word names.
+#[tactic(auto, unfolding(crate::specs::Names::mode_of))]
 pub fn mode_of(word: &[u8]) -> Option<Mode>
     ensures value { result ≡ mode_of word.now }
 {

@@ -1,103 +1,131 @@
 // The job that words ask for.
-ghost use Rattle.std.specs.Prelude.{◌≡◌, map, string_bytes, IfOk, IfErr, Ok, [], unwrap_or, false};
+ghost use Rattle.std.specs.Prelude.{◌≡◌, map, string_bytes, IfOk, IfErr, Ok, [], Some, unwrap_or, false, codes};
 ghost use Rattle.std.specs.Option.{option_map};
+ghost use Rattle.clap.specs.Words.{found_of, rows_of};
 ghost use Rattle.tam_msgs.specs.Messages.{AreLimits};
-ghost use Rattle.tam_words.specs.declared.setting.Setting.TheVariants.{OrderFile as Set_order_file};
+ghost use Rattle.tam_words.specs.declared.usage_cause.UsageCause.TheVariants.{Words};
 ghost use Rattle.tam_words.specs.Names.{makes};
-ghost use Rattle.tam_words.specs.Options.{given, usual_limits};
-ghost use Rattle.tam_words.specs.Jobs.{asked, job_of, made_job_of, limits_of, is_plain, is_extra, may_follow, Job as Asks};
+ghost use Rattle.tam_words.specs.Command.{given};
+ghost use Rattle.tam_words.specs.Options.{usual_limits};
+ghost use Rattle.tam_words.specs.Jobs.{asked, asked_by, mode_job_of, job_of, made_job_of, limits_of, has_option, is_extra, some_or, Job as Asks};
 ghost use Rattle.tam_words.specs.Tells.{Tells, TellsOf};
 
+use crate::command::{given, is_given, match_words};
 use crate::job::Job;
 use crate::mode::{Mode, mode_of};
-use crate::options::{are_options, given, is_given};
-use crate::setting::Setting;
 use crate::shapes::{read_count, shape_of};
 use crate::usage_cause::UsageCause;
 use crate::values::{read_args, read_limit, read_order};
 use crate::words_error::WordsError;
+use clap::ArgMatches;
 use std::alloc::{AllocError, Global};
 use tam_msgs::{Limits, Order};
 
 /// The job that the words behind the program's name ask for, or the first cause of those that forbid one. Want of memory may hide a cause.
 ///
 /// docs/FORMATS.md, "Command line".
+#[tactic(auto, unfolding(crate::specs::Jobs::asked))]
 pub fn read_words(alloc: Global, words: &[String]) -> Result<Job, WordsError>
     ensures found { IfOk result (λ job. asked (map string_bytes words.now) ≡ Asks job) }
     ensures refused { IfErr result (Tells (asked (map string_bytes words.now))) }
 {
-    let [mode, name, words @ ..] = words else {
-        return Err(WordsError::Usage(UsageCause::Words));
-    };
-    let found = mode_of(mode.as_bytes());
-    if !is_plain(mode.as_str()) || !is_plain(name.as_str()) || !may_follow(found, words) {
-        return Err(WordsError::Usage(UsageCause::Words));
-    }
-    let Some(mode) = found else {
+    let matches = match_words(alloc, words)?;
+    read_matches(alloc, &matches)
+}
+
+// The job that matches ask for.
+fn read_matches(alloc: Global, matches: &ArgMatches) -> Result<Job, WordsError>
+    ensures found { IfOk result (λ job. asked_by (rows_of (found_of matches.now)) ≡ Asks job) }
+    ensures refused { IfErr result (Tells (asked_by (rows_of (found_of matches.now)))) }
+{
+    let mode = required("mode", matches)?;
+    let name = required("name", matches)?;
+    let Some(mode) = mode_of(mode.as_bytes()) else {
         return Err(WordsError::Usage(UsageCause::Mode));
     };
-    if mode.makes() {
-        return read_made_job(alloc, mode, name.as_str(), words);
+    read_mode_job(alloc, mode, name, matches)
+}
+
+// The value of an argument that the command requires.
+fn required<'a>(name: &str, matches: &ArgMatches<'a>) -> Result<&'a str, WordsError>
+    ensures found { IfOk result (λ value. given name.now (rows_of (found_of matches.now)) ≡ Some value.now) }
+    ensures refused { IfErr result (TellsOf (some_or Words (given name.now (rows_of (found_of matches.now))))) }
+{
+    match given(name, matches) {
+        Some(value) => Ok(value),
+        None => Err(WordsError::Usage(UsageCause::Words)),
     }
-    if is_extra(mode, words) {
+}
+
+// The job of a mode, where what is given belongs to it.
+fn read_mode_job(
+    alloc: Global,
+    mode: Mode,
+    name: &str,
+    matches: &ArgMatches,
+) -> Result<Job, WordsError>
+    ensures found { IfOk result (λ job. mode_job_of mode name.now (rows_of (found_of matches.now)) ≡ Asks job) }
+    ensures refused { IfErr result (Tells (mode_job_of mode name.now (rows_of (found_of matches.now)))) }
+{
+    if is_extra(mode, matches) {
         return Err(WordsError::Usage(UsageCause::Extra));
     }
-    read_job(alloc, mode, name.as_str(), words)
-}
-
-// Whether the words may stand behind MODE and NAME: one at most in a mode that makes its input, else options alone.
-fn may_follow(mode: Option<Mode>, words: &[String]) -> bool
-    ensures value { result ≡ may_follow mode (map string_bytes words.now) }
-{
-    match mode {
-        Some(mode) if mode.makes() => matches!(words, [] | [_]),
-        _ => are_options(words),
+    if mode.makes() {
+        read_made_job(alloc, mode, name, matches)
+    } else {
+        read_job(alloc, mode, name, matches)
     }
 }
 
-// Whether the word isn't empty and doesn't begin with `-`.
-fn is_plain(word: &str) -> bool
-    ensures value { result ≡ is_plain word.now }
+// Whether there is a count or an option that doesn't belong to the mode, or there are options that don't belong together.
+fn is_extra(mode: Mode, matches: &ArgMatches) -> bool
+    ensures value { result ≡ is_extra mode (rows_of (found_of matches.now)) }
 {
-    match word.as_bytes() {
-        [] => false,
-        [first, ..] => *first != b'-',
-    }
+    !mode.makes() && is_given("count", matches)
+        || !mode.runs() && has_option(matches)
+        || is_given("order", matches) && is_given("order-file", matches)
 }
 
-// Whether there are options that don't belong to the mode, or not together.
-fn is_extra(mode: Mode, options: &[String]) -> bool
-    ensures value { result ≡ is_extra mode (map string_bytes options.now) }
+// Whether an option is given.
+fn has_option(matches: &ArgMatches) -> bool
+    ensures value { result ≡ has_option (rows_of (found_of matches.now)) }
 {
-    if options.is_empty() {
-        return false;
-    }
-    !mode.runs() || (is_given(Setting::Order, options) && is_given(Setting::OrderFile, options))
+    is_given("args", matches)
+        || is_given("order", matches)
+        || is_given("order-file", matches)
+        || is_given("budget", matches)
+        || is_given("frames", matches)
+        || is_given("cells", matches)
 }
 
 // The job of a mode on a file with options, if each option's value is right.
-fn read_job(alloc: Global, mode: Mode, name: &str, options: &[String]) -> Result<Job, WordsError>
+fn read_job(alloc: Global, mode: Mode, name: &str, matches: &ArgMatches) -> Result<Job, WordsError>
     requires reads { makes mode ≡ false }
-    ensures found { IfOk result (λ job. job_of mode name.now (map string_bytes options.now) ≡ Asks job) }
-    ensures refused { IfErr result (Tells (job_of mode name.now (map string_bytes options.now))) }
+    ensures found { IfOk result (λ job. job_of mode name.now (rows_of (found_of matches.now)) ≡ Asks job) }
+    ensures refused { IfErr result (Tells (job_of mode name.now (rows_of (found_of matches.now)))) }
 {
-    let args = read_args(alloc, text_of(Setting::Args, options).as_bytes())?;
-    let order = read_order(alloc, text_of(Setting::Order, options).as_bytes())?;
-    let limits = read_limits(options)?;
-    let order_file = order_file(alloc, options)?;
+    let args = read_args(alloc, text_of("args", matches).as_bytes())?;
+    let order = read_order(alloc, text_of("order", matches).as_bytes())?;
+    let limits = read_limits(matches)?;
+    let order_file = order_file(alloc, matches)?;
     let name = String::from_str(alloc, name)?;
     Ok(Job::new(mode, name, 0, args, order, order_file, limits))
 }
 
 // The job of a mode that makes its input, if the name is that of a shape, which may have the count.
-fn read_made_job(alloc: Global, mode: Mode, name: &str, words: &[String]) -> Result<Job, WordsError>
-    ensures found { IfOk result (λ job. made_job_of mode name.now (map string_bytes words.now) ≡ Asks job) }
-    ensures refused { IfErr result (Tells (made_job_of mode name.now (map string_bytes words.now))) }
+fn read_made_job(
+    alloc: Global,
+    mode: Mode,
+    name: &str,
+    matches: &ArgMatches,
+) -> Result<Job, WordsError>
+    ensures found { IfOk result (λ job. made_job_of mode name.now (rows_of (found_of matches.now)) ≡ Asks job) }
+    ensures refused { IfErr result (Tells (made_job_of mode name.now (rows_of (found_of matches.now)))) }
 {
     let Some(shape) = shape_of(name.as_bytes()) else {
         return Err(WordsError::Usage(UsageCause::Shape));
     };
-    let Some(count) = read_count(shape, words) else {
+    let Some(count) = read_count(shape, given("count", matches)) else {
         return Err(WordsError::Usage(UsageCause::Count));
     };
     let name = String::from_str(alloc, name)?;
@@ -119,18 +147,18 @@ fn usual_limits() -> Limits
 }
 
 // The limits of a run.
-fn read_limits(options: &[String]) -> Result<Limits, WordsError>
-    ensures found { IfOk result (λ limits. limits_of (map string_bytes options.now) ≡ Ok limits) }
+fn read_limits(matches: &ArgMatches) -> Result<Limits, WordsError>
+    ensures found { IfOk result (λ limits. limits_of (rows_of (found_of matches.now)) ≡ Ok limits) }
     ensures in_range { IfOk result AreLimits }
-    ensures refused { IfErr result (TellsOf (limits_of (map string_bytes options.now))) }
+    ensures refused { IfErr result (TellsOf (limits_of (rows_of (found_of matches.now)))) }
 {
-    let Some(budget) = read_limit(Setting::Budget, options, 1_000_000, 0, u32::MAX) else {
+    let Some(budget) = read_limit(given("budget", matches), 1_000_000, 0, u32::MAX) else {
         return Err(WordsError::Usage(UsageCause::Budget));
     };
-    let Some(frames) = read_limit(Setting::Frames, options, 4096, 1, 16_384) else {
+    let Some(frames) = read_limit(given("frames", matches), 4096, 1, 16_384) else {
         return Err(WordsError::Usage(UsageCause::Frames));
     };
-    let Some(cells) = read_limit(Setting::Cells, options, 1_048_576, 0, 4_194_304) else {
+    let Some(cells) = read_limit(given("cells", matches), 1_048_576, 0, 4_194_304) else {
         return Err(WordsError::Usage(UsageCause::Cells));
     };
     Ok(Limits {
@@ -140,21 +168,21 @@ fn read_limits(options: &[String]) -> Result<Limits, WordsError>
     })
 }
 
-// The value of a setting, or an empty text.
-fn text_of(setting: Setting, options: &[String]) -> &str
-    ensures value { result.now ≡ unwrap_or (given setting (map string_bytes options.now)) [] }
+// The value of an argument, or an empty text.
+fn text_of<'a>(name: &str, matches: &ArgMatches<'a>) -> &'a str
+    ensures value { result.now ≡ unwrap_or (given name.now (rows_of (found_of matches.now))) [] }
 {
-    match given(setting, options) {
+    match given(name, matches) {
         Some(text) => text,
         None => "",
     }
 }
 
 // The name of the order file.
-fn order_file(alloc: Global, options: &[String]) -> Result<Option<String>, AllocError>
-    ensures same { IfOk result (λ file. option_map string_bytes file ≡ given Set_order_file (map string_bytes options.now)) }
+fn order_file(alloc: Global, matches: &ArgMatches) -> Result<Option<String>, AllocError>
+    ensures same { IfOk result (λ file. option_map string_bytes file ≡ given (codes "order-file") (rows_of (found_of matches.now))) }
 {
-    match given(Setting::OrderFile, options) {
+    match given("order-file", matches) {
         Some(file) => Ok(Some(String::from_str(alloc, file)?)),
         None => Ok(None),
     }

@@ -1,6 +1,6 @@
 // The names of shapes, and the counts that they may have.
-ghost use Rattle.std.specs.Prelude.{◌≡◌, find, map, string_bytes};
-ghost use Rattle.std.specs.Str.{bytes_eq};
+ghost use Rattle.std.specs.Prelude.{◌≡◌, ℕ, List, option_map};
+ghost use Rattle.std.specs.Borrow.{Bor};
 ghost use Rattle.tam_make.specs.MadeTexts.{largest};
 ghost use Rattle.tam_words.specs.Names.{shape_name, shape_of};
 ghost use Rattle.tam_words.specs.Options.{count_of};
@@ -31,14 +31,11 @@ pub fn shape_of(word: &[u8]) -> Option<Shape>
     }
 }
 
-/// The count that the words give a shape, where the first of them is a number that the shape may have.
-pub fn read_count(shape: Shape, words: &[String]) -> Option<u32>
-    ensures value { result ≡ count_of shape (map string_bytes words.now) }
+/// The count that a text gives a shape, where it is a number that the shape may have.
+pub fn read_count(shape: Shape, text: Option<&str>) -> Option<u32>
+    ensures value { result ≡ count_of shape (option_map (λ (text : Bor (List ℕ)). text.now) text.entry) }
 {
-    let [word, ..] = words else {
-        return None;
-    };
-    match read_number(word.as_bytes(), largest(shape)) {
+    match read_number(text?.as_bytes(), largest(shape)) {
         Some(count) if count >= 1 => Some(count),
         _ => None,
     }

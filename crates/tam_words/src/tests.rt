@@ -31,33 +31,71 @@ fn check_cause<R: Abort + AllocGlobal>(
 
 #[test]
 fn wrong_words_have_their_cause(rt: HostRuntime) -> Result<(), Fail> {
-    let cases: [(&[&str], UsageCause); 45] = [
+    let cases: [(&[&str], UsageCause); 69] = [
         (&[], UsageCause::Words),
         (&["graph"], UsageCause::Words),
-        (&["", "f"], UsageCause::Words),
-        (&["graph", ""], UsageCause::Words),
+        (&["help"], UsageCause::Words),
+        (&["--help"], UsageCause::Words),
+        (&["graph", "f", "--help"], UsageCause::Words),
+        (&["-h", "graph", "f"], UsageCause::Words),
+        (&["--version"], UsageCause::Words),
+        (&["graph", "f", "-V"], UsageCause::Words),
         (&["graph", "-f"], UsageCause::Words),
         (&["-fly", "f"], UsageCause::Words),
-        (&["graph", "f", "g"], UsageCause::Words),
-        (&["graph", "f", "--args"], UsageCause::Words),
+        (&["graph", "f", "1", "2"], UsageCause::Words),
+        (&["make", "ladder", "1", "1"], UsageCause::Words),
+        (&["graph", "--", "-f", "--args=1", "x"], UsageCause::Words),
         (&["graph", "f", "--arg=1"], UsageCause::Words),
+        (&["graph", "f", "--args"], UsageCause::Words),
+        (&["graph", "f", "--args", "-2,3"], UsageCause::Words),
+        (&["graph", "f", "--args", "--", "1"], UsageCause::Words),
+        (&["--args", "graph", "f"], UsageCause::Words),
         (
             &["graph", "f", "--cells=1", "--args=1", "--cells=1"],
             UsageCause::Words,
         ),
+        (&["graph", "--args=", "f", "--args", "1"], UsageCause::Words),
         (&["fly", "f", "--orders="], UsageCause::Words),
-        (&["fly", "f", "--args=x"], UsageCause::Mode),
+        (&["", "f"], UsageCause::Mode),
+        (&["-", "f"], UsageCause::Mode),
+        (&["--", "--args=1", "f"], UsageCause::Mode),
         (&["grap", "f"], UsageCause::Mode),
+        (&["Graph", "f"], UsageCause::Mode),
+        (&["nodes", "f"], UsageCause::Mode),
+        (&["eq", "f"], UsageCause::Mode),
+        (&["emit-eq", "f"], UsageCause::Mode),
+        (&["fly", "f", "1", "--args=x"], UsageCause::Mode),
+        (&["check", "f", "--args=1"], UsageCause::Extra),
         (&["check", "f", "--args="], UsageCause::Extra),
         (&["emit-tl0", "f", "--frames=1"], UsageCause::Extra),
-        (&["tl0", "f", "--frames=0"], UsageCause::Frames),
-        (&["exec-tl0", "f", "--args=1,"], UsageCause::Args),
+        (&["emit-asm", "f", "--budget", "1"], UsageCause::Extra),
+        (&["emit-image", "--cells=1", "f"], UsageCause::Extra),
+        (&["graph", "f", "2"], UsageCause::Extra),
+        (&["assemble", "f", "-"], UsageCause::Extra),
+        (&["rv32", "f", ""], UsageCause::Extra),
+        (&["exec-rv32", "f", "--", "--args=1"], UsageCause::Extra),
         (
             &["graph", "f", "--order=x", "--args=x", "--order-file="],
             UsageCause::Extra,
         ),
-        (&["graph", "f", "--order=x", "--args=1,"], UsageCause::Args),
+        (&["make", "ring", "1", "--cells=1"], UsageCause::Extra),
+        (&["make", "ladder", "201", "--args="], UsageCause::Extra),
+        (&["make", "ring", "1"], UsageCause::Shape),
+        (&["make", "ladders"], UsageCause::Shape),
+        (&["make", ""], UsageCause::Shape),
+        (&["make", "ladder"], UsageCause::Count),
+        (&["make", "ladder", "0"], UsageCause::Count),
+        (&["make", "ladder", "201"], UsageCause::Count),
+        (&["make", "wave", "61"], UsageCause::Count),
+        (&["make", "wave", "01"], UsageCause::Count),
+        (&["make", "wave", "0x1"], UsageCause::Count),
+        (&["make", "wave", ""], UsageCause::Count),
+        (&["exec-tl0", "f", "--args=1,"], UsageCause::Args),
+        (&["graph", "f", "--order=x", "--args=,"], UsageCause::Args),
         (&["graph", "f", "--args=4294967296"], UsageCause::Args),
+        (&["--args", "graph", "graph", "f"], UsageCause::Args),
+        (&["--args", "-", "graph", "f"], UsageCause::Args),
+        (&["graph", "f", "--order=r,x"], UsageCause::Order),
         (
             &["graph", "f", "--budget=", "--order=r;"],
             UsageCause::Order,
@@ -67,37 +105,55 @@ fn wrong_words_have_their_cause(rt: HostRuntime) -> Result<(), Fail> {
             UsageCause::Budget,
         ),
         (&["graph", "f", "--budget=-0"], UsageCause::Budget),
+        (&["graph", "f", "--budget", ""], UsageCause::Budget),
+        (&["tl0", "f", "--frames=0"], UsageCause::Frames),
         (
             &["graph", "f", "--cells=", "--frames=0"],
             UsageCause::Frames,
         ),
-        (&["graph", "f", "--frames=16385"], UsageCause::Frames),
+        (&["rv32", "f", "--frames=16385"], UsageCause::Frames),
         (&["graph", "f", "--frames=01"], UsageCause::Frames),
         (&["graph", "f", "--cells=4194305"], UsageCause::Cells),
-        (&["graph", "f", "--cells=0x1"], UsageCause::Cells),
+        (&["exec-rv32", "f", "--cells=0x1"], UsageCause::Cells),
         (
             &["graph", "f", "--order-file=", "--cells=+1"],
             UsageCause::Cells,
         ),
-        (&["check", "f", "--help"], UsageCause::Words),
-        (&["graph", "f", "2"], UsageCause::Words),
-        (&["make"], UsageCause::Words),
-        (&["make", ""], UsageCause::Words),
-        (&["make", "-ladder", "1"], UsageCause::Words),
-        (&["make", "ladder", "1", "1"], UsageCause::Words),
-        (&["make", "ladder", "201", "--args=0"], UsageCause::Words),
-        (&["make", "ring", "1"], UsageCause::Shape),
-        (&["make", "ladders"], UsageCause::Shape),
-        (&["make", "ladder"], UsageCause::Count),
-        (&["make", "ladder", "0"], UsageCause::Count),
-        (&["make", "ladder", "201"], UsageCause::Count),
-        (&["make", "wave", "61"], UsageCause::Count),
-        (&["make", "wave", "01"], UsageCause::Count),
-        (&["make", "wave", "--args=1"], UsageCause::Count),
-        (&["make", "wave", ""], UsageCause::Count),
     ];
     for (words, cause) in cases {
         check_cause(&rt, words, cause)?;
+    }
+    Ok(())
+}
+
+// Options may stand anywhere, a value behind `=` or as the next word. A bare `-` is a value, and behind `--` each word is.
+#[test]
+fn words_match_the_command(rt: HostRuntime) -> Result<(), Fail> {
+    let cases: [(&[&str], &str, &[u32]); 9] = [
+        (&["--args", "2,3", "graph", "a.dg"], "a.dg", &[2, 3]),
+        (&["graph", "--args=2,3", "a.dg"], "a.dg", &[2, 3]),
+        (
+            &["graph", "a.dg", "--args=-2,0xFF"],
+            "a.dg",
+            &[4_294_967_294, 255],
+        ),
+        (&["--args=1", "--", "graph", "-f"], "-f", &[1]),
+        (
+            &["graph", "--args", "1", "--", "--args=2"],
+            "--args=2",
+            &[1],
+        ),
+        (&["graph", "-"], "-", &[]),
+        (&["graph", ""], "", &[]),
+        (&["graph", "f", "--args="], "f", &[]),
+        (&["graph", "f", "--args", "", "--order="], "f", &[]),
+    ];
+    for (words, name, args) in cases {
+        let texts = texts(&rt, words)?;
+        let job = read_words(rt.alloc(), &texts)?;
+        assert_eq!(rt; job.mode(), Mode::Graph, "at {words:?}");
+        assert_eq!(rt; job.name().as_bytes(), name.as_bytes(), "at {words:?}");
+        assert_eq!(rt; job.args(), args, "at {words:?}");
     }
     Ok(())
 }
@@ -128,13 +184,17 @@ fn modes_have_their_words(rt: HostRuntime) -> Result<(), Fail> {
     let cases = [
         ("graph", Mode::Graph),
         ("tl0", Mode::Tl0),
+        ("rv32", Mode::Rv32),
         ("check", Mode::Check),
         ("emit-dg", Mode::EmitDg),
         ("sets", Mode::Sets),
         ("parts", Mode::Parts),
         ("emit-tl0", Mode::EmitTl0),
+        ("emit-asm", Mode::EmitAsm),
+        ("emit-image", Mode::EmitImage),
         ("assemble", Mode::Assemble),
         ("exec-tl0", Mode::ExecTl0),
+        ("exec-rv32", Mode::ExecRv32),
     ];
     for (word, mode) in cases {
         let texts = texts(&rt, &[word, "f"])?;
@@ -233,9 +293,10 @@ fn options_come_in_any_order(rt: HostRuntime) -> Result<(), Fail> {
 
 #[test]
 fn an_order_file_may_have_any_name(rt: HostRuntime) -> Result<(), Fail> {
-    let cases: [(&str, &[u8]); 3] = [
+    let cases: [(&str, &[u8]); 4] = [
         ("--order-file=o", b"o"),
         ("--order-file=", b""),
+        ("--order-file=-", b"-"),
         ("--order-file=-x=--order=r", b"-x=--order=r"),
     ];
     for (word, name) in cases {

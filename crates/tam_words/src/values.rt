@@ -1,13 +1,12 @@
 // The values of options.
-ghost use Rattle.std.specs.Prelude.{◌≡◌, map, string_bytes, IfOk, IfErr, IfSome, IfNone, Some, None};
+ghost use Rattle.std.specs.Prelude.{◌≡◌, ℕ, List, map, option_map, IfOk, IfErr, IfSome, IfNone, Some, None};
+ghost use Rattle.std.specs.Borrow.{Bor};
 ghost use Rattle.std.specs.List.{slice_split};
 ghost use Rattle.tam_words.specs.declared.usage_cause.UsageCause.TheVariants.{Args, Order as Bad_order};
-ghost use Rattle.tam_words.specs.Options.{all_words, args_of, is_comma, short_order_of, limit_of, given};
+ghost use Rattle.tam_words.specs.Options.{all_words, args_of, is_comma, short_order_of, limit_of};
 ghost use Rattle.tam_words.specs.Jobs.{some_or};
 ghost use Rattle.tam_words.specs.Tells.{TellsOf};
 
-use crate::options::given;
-use crate::setting::Setting;
 use crate::usage_cause::UsageCause;
 use crate::words_error::WordsError;
 use std::alloc::{AllocError, Global};
@@ -39,17 +38,11 @@ pub fn read_order(alloc: Global, text: &[u8]) -> Result<Order, WordsError>
     Ok(Order::read(alloc, text)?)
 }
 
-/// The number that a setting is given, if it is one from the least to the most; the usual one where nothing is given.
-pub fn read_limit(
-    setting: Setting,
-    words: &[String],
-    usual: u32,
-    least: u32,
-    most: u32,
-) -> Option<u32>
-    ensures value { result ≡ limit_of usual least most (given setting (map string_bytes words.now)) }
+/// The number that a text spells, if it is one from the least to the most; the usual one where there is no text.
+pub fn read_limit(text: Option<&str>, usual: u32, least: u32, most: u32) -> Option<u32>
+    ensures value { result ≡ limit_of usual least most (option_map (λ (text : Bor (List ℕ)). text.now) text.entry) }
 {
-    match given(setting, words) {
+    match text {
         None => Some(usual),
         Some(text) => match read_number(text.as_bytes(), most) {
             Some(number) if number >= least => Some(number),

@@ -1,9 +1,12 @@
 // Why words give no job.
 ghost use Rattle.std.specs.Prelude.{◌≡◌};
 ghost use Rattle.tam_words.specs.declared.words_error.WordsError.TheVariants.{NoMemory as Wants_memory};
-ghost use Rattle.tam_words.specs.Tells.{words_error_of};
+ghost use Rattle.clap.specs.Words.{kind_of};
+ghost use Rattle.tam_words.specs.Tells.{words_error_of, words_error_of_kind};
 
 use crate::usage_cause::UsageCause;
+use clap::Error;
+use clap::error::ErrorKind;
 use std::alloc::AllocError;
 use tam_msgs::OrderError;
 
@@ -29,6 +32,17 @@ impl From<OrderError> for WordsError {
         match error {
             OrderError::Bad { .. } => WordsError::Usage(UsageCause::Order),
             OrderError::NoMemory => WordsError::NoMemory,
+        }
+    }
+}
+
+impl From<Error> for WordsError {
+    ghost from_gives = { λ from error. error ≡ words_error_of_kind (kind_of from) };
+
+    fn from(error: Error) -> WordsError {
+        match error.kind() {
+            ErrorKind::OutOfMemory => WordsError::NoMemory,
+            _ => WordsError::Usage(UsageCause::Words),
         }
     }
 }

@@ -1,0 +1,17 @@
+use Rattle.std.proofs.Common.{◌∙◌, ap₂}
+use Rattle.std.proofs.lemmas.Result.{IfOk-weaker}
+use Rattle.clap.specs.Words.{with_rule}
+use Rattle.tam_words.specs.Command.{command}
+use Rattle.tam_words.proofs.command.command.Goals as goal
+
+pub returns : goal.returns
+unfolding command
+returns c =
+    let one = c.in_ok-arg.ensures.shape c.option.ensures.local ∙ ap₂ with_rule c.in_ok-placed_command.ensures.value c.option.ensures.value in
+    let two = c.in_ok-arg-2.ensures.shape c.option-2.ensures.local ∙ ap₂ with_rule one c.option-2.ensures.value in
+    let three = c.in_ok-arg-3.ensures.shape c.option-3.ensures.local ∙ ap₂ with_rule two c.option-3.ensures.value in
+    let four = c.in_ok-arg-4.ensures.shape c.option-4.ensures.local ∙ ap₂ with_rule three c.option-4.ensures.value in
+    let five = c.in_ok-arg-5.ensures.shape c.option-5.ensures.local ∙ ap₂ with_rule four c.option-5.ensures.value in
+    record {
+      value = IfOk-weaker c.arg-6.result _ _ (λ made h. h.shape c.option-6.ensures.local ∙ ap₂ with_rule five c.option-6.ensures.value) c.arg-6.ensures;
+    }

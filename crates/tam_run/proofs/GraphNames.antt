@@ -272,7 +272,8 @@ module _ (g : Graph) (args : List ℕ) (order : List Item) (limits : Limits) (jo
   -- ---- the law
 
   named-live : (n : ℕ) (s : GraphState) → IsAfter g args order limits n s → (i : ℕ) → In i (names_in s) → i ≢ outside → IsLiveIn g s i
-  named-live n s after i named o = subst (λ (z : GraphState). IsLiveIn g z i) (sym here) (w.there, waits-live t once words reached j.ready j.rest j.made may i w)
+  named-live n s after i named o = subst (λ (z : GraphState). IsLiveIn g z i) (sym here)
+      (w.there, waits-live t once words reached j.ready j.rest j.made may i w)
     where
       j : InJournal s
       j = many-steps n (graph_opening g args order) s begins after

@@ -13,7 +13,7 @@ use Rattle.tam_msgs.specs.declared.choice.Choice.TheVariants.{Quiet as Choose_qu
 use Rattle.tam_msgs.specs.Runs.{End, Budget_spent, Ended, choice}
 use Rattle.tam_world.specs.Worlds.{Delivery, Went, Printed, Faulted, delivered}
 use Rattle.tam_eval.specs.GraphRuns.{GraphState, graph_step, chosen, counted, fired_first, after_delivery, delivered_unless, delivered_at, some_ready}
-use Rattle.tam_run.specs.GraphRemaining.{graph_run}
+use Rattle.tam_run.specs.GraphTelling.{graph_run}
 use Rattle.tam_run.proofs.RunSteps.{Follows}
 
 module _ (g : Graph) (limits : Limits) (s : GraphState) (room : s.events ≢ limits.budget) (rest : List Item) where

@@ -16,10 +16,12 @@ use Rattle.tam_flow.proofs.RightJournals.{borne-right}
 use Rattle.tam_run.proofs.GraphJournals.{run-borne}
 use Rattle.tam_split.specs.GraphPartitions.{Partitions, singles, partitions}
 use Rattle.tam_flow.specs.BorneOut.{BearsOut, IsBorneOut}
-use Rattle.tam_run.specs.Writing.{IsWild}
+use Rattle.tam_run.specs.Writing.{IsWild, IsTrap}
 use Rattle.tam_eval.specs.GraphRuns.{graph_told}
 use Rattle.tam_eval.proofs.Enough.{enough-is_not_refused}
-use Rattle.tl0_keep.specs.ThreadLaws.{ThreadRunsAreBorneOut, RoomIsQuiet as Threads_quiet}
+use Rattle.tl0_keep.specs.ThreadLaws.{IsJob, ThreadRunsAreBorneOut, RoomIsQuiet as Threads_quiet}
+use Rattle.tam_fits.specs.ImageLaws.{ImagesTellThreads}
+use Rattle.tam_fits.specs.LiveFrames.{ImageRoomIsQuiet}
 use Rattle.tl0_keep.proofs.whole.Quiet.{aside-quiet}
 
 -- ---- lists
@@ -40,40 +42,40 @@ distinct-places {X} (x ∷ xs) h = (
 
 -- a list around one of its elements
 pub record Around {X : Type 0} (x : X) (xs : List X) : Type 0 where
-  pub front : List X
+  pub prefix : List X
   pub back : List X
-  pub is : xs ≡ front ++ x ∷ back
+  pub is : xs ≡ prefix ++ x ∷ back
 
 -- each element has a list around it
 around : {X : Type 0} (x : X) (xs : List X) → In x xs → Around x xs
 around x [] h = absurd h
-around {X} x (y ∷ ys) (inl e) = record { front = []; back = ys; is = ap (λ z. z ∷ ys) e }
-around {X} x (y ∷ ys) (inr h) = let r = around x ys h in record { front = y ∷ r.front; back = r.back; is = ap (λ l. y ∷ l) r.is }
+around {X} x (y ∷ ys) (inl e) = record { prefix = []; back = ys; is = ap (λ z. z ∷ ys) e }
+around {X} x (y ∷ ys) (inr h) = let r = around x ys h in record { prefix = y ∷ r.prefix; back = r.back; is = ap (λ l. y ∷ l) r.is }
 
 -- an element of a list but for one
-in-rest : {X : Type 0} (x y : X) (front back : List X) → In y (front ++ x ∷ back) → (x ≡ y → ⊥) → In y (front ++ back)
+in-rest : {X : Type 0} (x y : X) (prefix back : List X) → In y (prefix ++ x ∷ back) → (x ≡ y → ⊥) → In y (prefix ++ back)
 in-rest x y [] back (inl e) n = absurd (n e)
 in-rest x y [] back (inr h) n = h
-in-rest x y (z ∷ front) back (inl e) n = inl e
-in-rest x y (z ∷ front) back (inr h) n = inr (in-rest x y front back h n)
+in-rest x y (z ∷ prefix) back (inl e) n = inl e
+in-rest x y (z ∷ prefix) back (inr h) n = inr (in-rest x y prefix back h n)
 
 -- is one of the list
-rest-in : {X : Type 0} (x y : X) (front back : List X) → In y (front ++ back) → In y (front ++ x ∷ back)
+rest-in : {X : Type 0} (x y : X) (prefix back : List X) → In y (prefix ++ back) → In y (prefix ++ x ∷ back)
 rest-in x y [] back h = inr h
-rest-in x y (z ∷ front) back (inl e) = inl e
-rest-in x y (z ∷ front) back (inr h) = inr (rest-in x y front back h)
+rest-in x y (z ∷ prefix) back (inl e) = inl e
+rest-in x y (z ∷ prefix) back (inr h) = inr (rest-in x y prefix back h)
 
 -- what is left stands once
-distinct-rest : {X : Type 0} (x : X) (front back : List X) → Distinct (front ++ x ∷ back) → (In x (front ++ back) → ⊥) × Distinct (front ++ back)
+distinct-rest : {X : Type 0} (x : X) (prefix back : List X) → Distinct (prefix ++ x ∷ back) → (In x (prefix ++ back) → ⊥) × Distinct (prefix ++ back)
 distinct-rest x [] back d = d
-distinct-rest {X} x (z ∷ front) back d =
-    let rest = distinct-rest x front back d.1 in (
+distinct-rest {X} x (z ∷ prefix) back d =
+    let rest = distinct-rest x prefix back d.1 in (
       λ h. go h rest.0,
-      (λ h. d.0 (rest-in x z front back h), rest.1),
+      (λ h. d.0 (rest-in x z prefix back h), rest.1),
     )
   where
-    go : In x (z ∷ (front ++ back)) → (In x (front ++ back) → ⊥) → ⊥
-    go (inl e) n = d.0 (subst (λ y. In y (front ++ x ∷ back)) (sym e) (middle front))
+    go : In x (z ∷ (prefix ++ back)) → (In x (prefix ++ back) → ⊥) → ⊥
+    go (inl e) n = d.0 (subst (λ y. In y (prefix ++ x ∷ back)) (sym e) (middle prefix))
       where
         middle : (l : List X) → In x (l ++ x ∷ back)
         middle [] = inl refl
@@ -89,21 +91,21 @@ same-permutation {X} (x ∷ xs) ys d e f h = go (around x ys (f x (inl refl))) (
   where
     go : Around x ys → ((l : List X) → Distinct l → ((y : X) → In y xs → In y l) → ((y : X) → In y l → In y xs) → IsPermutation xs l)
         → IsPermutation (x ∷ xs) ys
-    go a rest = subst (IsPermutation (x ∷ xs)) (sym a.is) (IsPermutation-trans (x ∷ xs) (x ∷ (a.front ++ a.back)) (a.front ++ x ∷ a.back)
-        (IsPermutation-cons x xs (a.front ++ a.back) (rest (a.front ++ a.back) apart.1 there back))
-        (IsPermutation-sym (a.front ++ x ∷ a.back) (x ∷ (a.front ++ a.back)) (IsPermutation-middle a.front x a.back)))
+    go a rest = subst (IsPermutation (x ∷ xs)) (sym a.is) (IsPermutation-trans (x ∷ xs) (x ∷ (a.prefix ++ a.back)) (a.prefix ++ x ∷ a.back)
+        (IsPermutation-cons x xs (a.prefix ++ a.back) (rest (a.prefix ++ a.back) apart.1 there back))
+        (IsPermutation-sym (a.prefix ++ x ∷ a.back) (x ∷ (a.prefix ++ a.back)) (IsPermutation-middle a.prefix x a.back)))
       where
-        apart : (In x (a.front ++ a.back) → ⊥) × Distinct (a.front ++ a.back)
-        apart = distinct-rest x a.front a.back (subst Distinct a.is e)
+        apart : (In x (a.prefix ++ a.back) → ⊥) × Distinct (a.prefix ++ a.back)
+        apart = distinct-rest x a.prefix a.back (subst Distinct a.is e)
 
-        there : (y : X) → In y xs → In y (a.front ++ a.back)
-        there y m = in-rest x y a.front a.back (subst (In y) a.is (f y (inr m))) (λ s. d.0 (subst (λ z. In z xs) (sym s) m))
+        there : (y : X) → In y xs → In y (a.prefix ++ a.back)
+        there y m = in-rest x y a.prefix a.back (subst (In y) a.is (f y (inr m))) (λ s. d.0 (subst (λ z. In z xs) (sym s) m))
 
-        back : (y : X) → In y (a.front ++ a.back) → In y xs
-        back y m = one (h y (subst (In y) (sym a.is) (rest-in x y a.front a.back m)))
+        back : (y : X) → In y (a.prefix ++ a.back) → In y xs
+        back y m = one (h y (subst (In y) (sym a.is) (rest-in x y a.prefix a.back m)))
           where
             one : In y (x ∷ xs) → In y xs
-            one (inl s) = absurd (apart.0 (subst (λ z. In z (a.front ++ a.back)) (sym s) m))
+            one (inl s) = absurd (apart.0 (subst (λ z. In z (a.prefix ++ a.back)) (sym s) m))
             one (inr k) = k
 
 -- ---- reports
@@ -185,13 +187,22 @@ module _ (g : Graph) (args : List ℕ) where
 pub borne-not_wild : (g : Graph) (all : Partitions) (args : List ℕ) (limits : Limits) (r : Report) → IsBorneOut g all args limits r → IsWild r.how → ⊥
 borne-not_wild g all args limits r borne wild = subst (λ how. BearsOut g all args limits borne.events r.events how) wild.2 borne.ends
 
+-- nor does it trap
+pub borne-no_trap : (g : Graph) (all : Partitions) (args : List ℕ) (limits : Limits) (r : Report) → IsBorneOut g all args limits r → IsTrap r.how → ⊥
+borne-no_trap g all args limits r borne trap = subst (λ how. BearsOut g all args limits borne.events r.events how) trap.2 borne.ends
+
 -- ---- the law
 
 -- each run is borne out
-pub runs_are-borne : ThreadRunsAreBorneOut → RunsAreBorneOut
-runs_are-borne borne level.Graph g args order limits accepted arguments ranges = (singles g, run-borne g args order limits accepted arguments ranges)
-runs_are-borne borne level.Tl0 g args order limits accepted arguments ranges =
+pub runs_are-borne : ThreadRunsAreBorneOut → ImagesTellThreads → RunsAreBorneOut
+runs_are-borne borne alike level.Graph g args order limits accepted arguments ranges = (singles g, run-borne g args order limits accepted arguments ranges)
+runs_are-borne borne alike level.Tl0 g args order limits accepted arguments ranges =
     (partitions g, borne g args order limits (record { accepted = accepted; arguments = arguments; ranges = ranges }))
+runs_are-borne borne alike level.Rv32 g args order limits accepted arguments ranges =
+    let job : IsJob g args limits = record { accepted = accepted; arguments = arguments; ranges = ranges } in (
+      partitions g,
+      subst (IsBorneOut g (partitions g) args limits) (sym (alike g args order limits job)) (borne g args order limits job),
+    )
 
 -- what is borne out is right
 pub runs_are-right : RunsAreRight
@@ -202,11 +213,12 @@ pub room_is-quiet : RoomIsQuiet
 room_is-quiet g all args limits r borne room = room-quiet g args limits room r.how (borne-right g all args limits r borne).cause
 
 -- with room for the live ones, and for all else, it is quiet
-pub live_room-is-quiet : Threads_quiet → LiveRoomIsQuiet
-live_room-is-quiet quiet level.Graph g args order limits job room suffice =
+pub live_room-is-quiet : Threads_quiet → ImageRoomIsQuiet → LiveRoomIsQuiet
+live_room-is-quiet quiet images level.Graph g args order limits job room suffice =
     aside-quiet g args limits room (graph_told g args order limits).how (λ n e. enough-is_not_refused g args order limits n suffice e)
     (borne-right g (singles g) args limits (graph_told g args order limits) (run-borne g args order limits job.accepted job.arguments job.ranges)).cause
-live_room-is-quiet quiet level.Tl0 g args order limits job room suffice = quiet g args order limits job room suffice
+live_room-is-quiet quiet images level.Tl0 g args order limits job room suffice = quiet g args order limits job room suffice
+live_room-is-quiet quiet images level.Rv32 g args order limits job room suffice = images g args order limits job room suffice
 
 -- quiet runs agree
 pub quiet_runs-agree : QuietRunsAgree

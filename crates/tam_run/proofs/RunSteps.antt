@@ -1,8 +1,10 @@
 -- A run followed event by event, whatever its states: what is printed only grows, and each event is counted, until the end.
-use Rattle.std.proofs.Common.{◌≡◌, ◌≢◌, ◌<◌, ◌≤◌, ◌+◌, ◌-◌, ℕ, zero, suc, List, [], ◌++◌, refl, sym, ◌∙◌, ap, subst, append_assoc, arith}
+use Rattle.std.proofs.Common.{◌≡◌, ◌≢◌, ◌+◌, ◌-◌, ℕ, zero, suc, List, [], ◌++◌, refl, sym, ◌∙◌, ap, subst, append_assoc, arith}
 use Rattle.std.proofs.lemmas.List.{append-nil}
+use Rattle.std.specs.Prelude.{Result, Ok, Err, IsErrAnd}
 use Rattle.tam_msgs.specs.Runs.{End, Outcome, Next, Ended, run_from}
-use Rattle.tam_run.specs.Remaining.{Run, room_of, report_of, told_from}
+use Rattle.tam_run.specs.Accounts.{Account, account_of}
+use Rattle.tam_run.specs.Telling.{Run, room_of, end_account, account_from, Tells, stand_in, GoesOn, EndsSo, TellsMore}
 
 -- the event printed further words behind those before, and was one more, which the budget had room for
 pub record WentOn {S : Type 0} (run : Run S) (s t : S) : Type 0 where
@@ -67,29 +69,45 @@ module _ (S : Type 0) (run : Run S) (follows : (s : S) → Follows run s (run.st
             ap (λ (r : End × S). run.printed r.1) (run-next n s t e) ∙ more-behind (run.printed s) (run.printed t) _ on.more l.0 on.printed l.1,
           )
 
-  -- what was printed is a front of what the run prints
-  pub told-prints : (s : S) → (more : List (ℕ × ℕ)) × ((told_from run s).printed ≡ run.printed s ++ more)
-  told-prints s = run-prints (room_of run s) s
+  -- what was printed is a prefix of what is told
+  pub tells-more : (s : S) (a : Account) → Tells run s a → TellsMore a (run.printed s)
+  tells-more s a t =
+      let p = run-prints (room_of run s) s in
+      (p.0, ap (λ (b : Account). b.report.printed) t.told ∙ p.1)
 
-  -- a step goes on with the run, and has room for one event less
-  pub told-next : (s t : S) → (run.counts s).events ≤ run.budget → run.step s ≡ Next t → told_from run s ≡ told_from run t
-  told-next s t few e =
+  -- a step goes on with the run: it tells the same, within the budget, and has room for one event less
+  pub goes-on : (s t : S) (a : Account) → Tells run s a → run.step s ≡ Next t → GoesOn (Tells run t a) (stand_in run s) (stand_in run t)
+  goes-on s t a tells e =
       let on = next-follows s t e in
+      let few = tells.few in
       let same : run.budget - (run.counts s).events ≡ suc (run.budget - (run.counts t).events) = omega (arith, on.counted, on.room, few) in
-      ap (λ n. report_of run (run_from run.step n s)) same ∙ ap (report_of run) (run-next (room_of run t) s t e)
-
-  pub room-next : (s t : S) → (run.counts s).events ≤ run.budget → run.step s ≡ Next t → room_of run t < room_of run s
-  room-next s t few e = let on = next-follows s t e in omega (arith, on.counted, on.room, few)
-
-  -- within the budget
-  pub few-next : (s t : S) → (run.counts s).events ≤ run.budget → run.step s ≡ Next t → (run.counts t).events ≤ run.budget
-  few-next s t few e = let on = next-follows s t e in omega (arith, on.counted, on.room, few)
+      let told : account_from run s ≡ account_from run t =
+      ap (λ n. end_account run (run_from run.step n s)) same ∙ ap (end_account run) (run-next (room_of run t) s t e) in
+      record {
+        told = record { few = omega (arith, on.counted, on.room, few); told = tells.told ∙ told };
+        less = omega (arith, on.counted, on.room, few);
+      }
 
   -- and where a step ends, the run ended so
-  pub told-ended : (s t : S) (how : End) → run.step s ≡ Ended how t → told_from run s ≡ report_of run (how, t)
-  told-ended s t how e = ap (report_of run) (run-ended (room_of run s) s t how e)
+  pub ends-so : (s t : S) (how : End) (a : Account) → Tells run s a → run.step s ≡ Ended how t → EndsSo (stand_in run t) (run.printed t) a how
+  ends-so s t how a tells e = is ∙ ap (λ n. account_of (run.printed t) how n (run.counts t) (run.machine t)) (sym (ap (λ (b : Account). b.report.results) is))
+    where
+      is : a ≡ account_of (run.printed t) how run.results (run.counts t) (run.machine t)
+      is = tells.told ∙ ap (end_account run) (run-ended (room_of run s) s t how e)
 
--- the report of a whole run, whose first state has counted no event
-pub told-whole : (S : Type 0) (run : Run S) (s : S) → (run.counts s).events ≡ 0 → told_from run s ≡ report_of run (run_from run.step run.budget s)
-told-whole S run s none =
-    let all : run.budget - (run.counts s).events ≡ run.budget = omega (arith, none) in ap (λ n. report_of run (run_from run.step n s)) all
+-- what a whole run tells, whose first state has counted no event, is told from there on
+pub tells-whole : (S : Type 0) (run : Run S) (s : S) → (run.counts s).events ≡ 0 → Tells run s (end_account run (run_from run.step run.budget s))
+tells-whole S run s none =
+    let all : run.budget - (run.counts s).events ≡ run.budget = omega (arith, none) in record {
+      few = omega (arith, none);
+      told = ap (λ n. end_account run (run_from run.step n s)) (sym all);
+    }
+
+-- `main` has as many results in what is told
+pub told-results : {S : Type 0} (run : Run S) (s : S) (a : Account) → Tells run s a → a.report.results ≡ run.results
+told-results run s a tells = ap (λ (b : Account). b.report.results) tells.told
+
+-- an answer that is known to be an error of this kind
+pub error-is : {T E : Type 0} (r : Result T E) (e : E) → IsErrAnd r (λ x. x ≡ e) → r ≡ Err e
+error-is (Ok x) e h = absurd h
+error-is (Err x) e h = ap (λ y. Err y) h

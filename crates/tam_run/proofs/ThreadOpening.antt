@@ -1,18 +1,19 @@
 -- A run of thread code at its opening.
-use Rattle.std.proofs.Common.{◌≡◌, ℕ, zero, suc, List, [], refl, ◌∙◌, ap}
-use Rattle.std.specs.Prelude.{Option, None, Some, slice_get}
+use Rattle.std.proofs.Common.{◌≡◌, ℕ, zero, suc, false, List, [], refl, sym, subst}
+use Rattle.std.specs.Prelude.{Option, None, Some, slice_get, replicate}
 use Rattle.tam_msgs.specs.declared.limits.Limits.{Limits}
 use Rattle.tam_msgs.specs.declared.item.Item.{Item}
 use Rattle.tam_msgs.specs.Messages.{outside}
 use Rattle.tam_frames.specs.FrameTables.{frame_at}
-use Rattle.tl0_code.specs.ThreadCode.{Program}
+use Rattle.tl0_code.specs.ThreadCode.{Program, code_text}
 use Rattle.tl0_code.specs.Machines.{Machine, spend_of}
 use Rattle.tl0_code.specs.ThreadRuns.{nothing_begun, with_frame, or_machine, thread_opening, thread_told}
-use Rattle.tl0_machine.specs.ThreadStates.{machine_with}
+use Rattle.tl0_machine.specs.ThreadStates.{machine_with, AreMarked}
 use Rattle.tl0_machine.specs.ThreadEvents.{ThreadRun, opening_state}
-use Rattle.tam_run.specs.Remaining.{told_from}
-use Rattle.tam_run.specs.ThreadRemaining.{thread_run, thread_remaining}
-use Rattle.tam_run.proofs.RunSteps.{told-whole}
+use Rattle.tam_run.specs.Accounts.{plain_account}
+use Rattle.tam_run.specs.Telling.{Tells}
+use Rattle.tam_run.specs.ThreadTelling.{thread_run, ThreadTells}
+use Rattle.tam_run.proofs.RunSteps.{tells-whole}
 
 -- a run at its opening
 abbrev pub opened : Program → List ℕ → Limits → ThreadRun
@@ -21,6 +22,12 @@ opened p args limits = record { program = p; limits = limits; state = opening_st
 -- with an order list
 abbrev ordered : List Item → Machine → Machine
 ordered order m = record m { order = order }
+
+-- where nothing was printed nothing is marked
+none-marked : (n : ℕ) → AreMarked (replicate n false) []
+none-marked zero k b e = absurd (cc)
+none-marked (suc n) zero b e = cc
+none-marked (suc n) (suc k) b e = none-marked n k b e
 
 module _ (p : Program) (args : List ℕ) where
   -- the order list is only kept there
@@ -49,9 +56,12 @@ module _ (p : Program) (args : List ℕ) where
       go (Some zero) = refl
       go (Some (suc n)) = refl
 
-  -- there the whole run is left
+  -- there the whole run is told
   pub thread-opened : (order : List Item) (limits : Limits)
-      → (thread_remaining (opened p args limits)).told order [] ≡ thread_told p args order limits
-  thread-opened order limits =
-      ap (told_from (thread_run p limits)) (opening-ordered order)
-      ∙ told-whole Machine (thread_run p limits) (thread_opening p args order) (opening-events order)
+      → ThreadTells (opened p args limits) order [] (plain_account (thread_told p args order limits))
+  thread-opened order limits = record {
+    going = refl;
+    marks = none-marked (code_text p p.main).results;
+    tells = subst (λ m. Tells (thread_run p limits) m (plain_account (thread_told p args order limits))) (sym (opening-ordered order))
+        (tells-whole Machine (thread_run p limits) (thread_opening p args order) (opening-events order));
+  }

@@ -23,7 +23,7 @@ use Rattle.tl0_code.specs.Machines.{Machine, Giving, slot, branch, put, with_mes
 use Rattle.tl0_code.specs.Machines.{owing_less, with_given, all_done, stopped_owing, stopped, done_thread}
 use Rattle.tl0_code.specs.ThreadRuns.{as_outcome, run_taken, text_at, printed_outside, word_into, with_frame, begin, begin_for, is_full, accessed, delivered}
 use Rattle.tl0_code.specs.ThreadRuns.{delivered_at, counted, chosen, thread_step}
-use Rattle.tam_run.specs.ThreadRemaining.{thread_run}
+use Rattle.tam_run.specs.ThreadTelling.{thread_run}
 use Rattle.tam_run.proofs.RunSteps.{Follows}
 
 -- what a state tells of itself as a run goes on

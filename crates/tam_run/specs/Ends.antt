@@ -3,6 +3,9 @@ use Rattle.std.specs.Prelude.{Option, None, Some}
 use Rattle.tam_msgs.specs.declared.stop.Stop.{Stop}
 use Rattle.tam_msgs.specs.declared.stop.Stop.TheVariants.{DoubleWrite, OutOfRange, FramesFull, CellsFull, BudgetSpent, NoMemory}
 use Rattle.tam_msgs.specs.Runs.{End, Quiet, Double_write, Out_of_range, Frames_full, Cells_full, Budget_spent}
+use Rattle.tam_msgs.specs.Runs.{WildCause, Wild_frame, Wild_inlet, Wild_thread, Wild_array, Wild_place, Wild_ecall, Wild_skip}
+use Rattle.tam_run.specs.declared.halt.Cause.{Cause}
+use Rattle.tam_run.specs.declared.halt.Cause.TheVariants as cause
 
 -- the end that a stop is; want of memory is none
 abbrev pub end_of_stop : Stop → Option End
@@ -17,3 +20,13 @@ end_of_stop NoMemory = None
 abbrev pub end_of : Option Stop → Option End
 end_of None = Some Quiet
 end_of (Some stop) = end_of_stop stop
+
+-- the cause that the code names
+abbrev pub cause_of : Cause → WildCause
+cause_of cause.Frame = Wild_frame
+cause_of cause.Inlet = Wild_inlet
+cause_of cause.Thread = Wild_thread
+cause_of cause.Array = Wild_array
+cause_of cause.Place = Wild_place
+cause_of cause.Ecall = Wild_ecall
+cause_of cause.Skip = Wild_skip

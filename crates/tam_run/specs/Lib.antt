@@ -1,9 +1,14 @@
 pub mod LineLists
 pub mod Ends
+pub mod Halts
+pub mod Accounts
 pub mod Levels
 pub mod Writing
-pub mod Remaining
-pub mod GraphRemaining
-pub mod ThreadRemaining
+pub mod HandedOut
+pub mod Telling
+pub mod Tallies
+pub mod GraphTelling
+pub mod ThreadTelling
+pub mod ImageTelling
 pub mod RightRuns
 pub mod GraphNames

@@ -13,9 +13,17 @@ use Rattle.tam_flow.specs.BorneOut.{IsBorneOut}
 use Rattle.tam_flow.specs.Headline.{IsRight}
 use Rattle.tam_run.specs.declared.level.Level.{Level}
 use Rattle.tam_run.specs.declared.level.Level.TheVariants as level
+use Rattle.tam_eval.specs.GraphRuns.{graph_text}
 use Rattle.tam_eval.specs.GraphLaws.{ActivationsSuffice}
+use Rattle.tl0_code.specs.ThreadRuns.{thread_text}
+use Rattle.tl0_keep.specs.Compiled.{compiled}
 use Rattle.tl0_keep.specs.ThreadLaws.{IsJob, HasRoomAside, FramesSuffice}
-use Rattle.tam_run.specs.Levels.{told_at}
+use Rattle.rv_inst.specs.Images.{Image}
+use Rattle.rv_keep.specs.Image.{image_of}
+use Rattle.rv_keep.specs.HostRuns.{image_text}
+use Rattle.tam_fits.specs.LiveFrames.{ImageFramesSuffice}
+use Rattle.tam_run.specs.Accounts.{account_text, image_account}
+use Rattle.tam_run.specs.Levels.{told_at, account_at}
 
 -- each run of an accepted graph, at every level, is borne out by a journal over some valid partitions
 abbrev pub RunsAreBorneOut : Type 0
@@ -40,6 +48,7 @@ RoomIsQuiet = (g : Graph) (all : Partitions) (args : List ℕ) (limits : Limits)
 abbrev pub LiveSuffice : Level → Graph → List ℕ → List Item → Limits → Type 0
 LiveSuffice level.Graph g args order limits = ActivationsSuffice g args order limits
 LiveSuffice level.Tl0 g args order limits = FramesSuffice g args order limits
+LiveSuffice level.Rv32 g args order limits = ImageFramesSuffice (image_of (compiled g)) args order limits
 
 -- where the limits leave room for all else, and for the live ones, the run is quiet
 abbrev pub LiveRoomIsQuiet : Type 0
@@ -60,3 +69,17 @@ QuietRunsAgree = (g : Graph) (all others : Partitions) (args : List ℕ) (limits
 abbrev pub NoResultIsMissing : Type 0
 NoResultIsMissing = (g : Graph) (all : Partitions) (args : List ℕ) (limits : Limits) (r : Report) (k w : ℕ) → IsBorneOut g all args limits r
     → Result g args k w → ¬ Contains (missing_of r.how r.results r.printed) k
+
+-- the machine's run reports what the threads' run reports: the same lines, in a text with one more, that of the instructions
+abbrev pub MachineTellsThreads : Type 0
+MachineTellsThreads = (g : Graph) (args : List ℕ) (order : List Item) (limits : Limits) → IsJob g args limits
+    → told_at level.Rv32 g args order limits ≡ told_at level.Tl0 g args order limits
+
+-- the text of what each level tells is the text of that level's run
+pub record TextsAreTold : Type 0 where
+  pub graph : (g : Graph) (args : List ℕ) (order : List Item) (limits : Limits)
+      → account_text (account_at level.Graph g args order limits) ≡ graph_text g args order limits
+  pub threads : (g : Graph) (args : List ℕ) (order : List Item) (limits : Limits)
+      → account_text (account_at level.Tl0 g args order limits) ≡ thread_text (compiled g) args order limits
+  pub images : (image : Image) (args : List ℕ) (order : List Item) (limits : Limits)
+      → account_text (image_account image args order limits) ≡ image_text image args order limits

@@ -1,20 +1,23 @@
 // The end of a run: the lines behind its results.
-ghost use Rattle.std.specs.Prelude.{◌≡◌, ℕ, List, length, filter};
+ghost use Rattle.std.specs.Prelude.{◌≡◌, length, filter};
+ghost use Rattle.rv_inst.specs.Traps.{trap_text};
 ghost use Rattle.tam_word.specs.Lists.{below};
 ghost use Rattle.tam_msgs.specs.declared.stop.Stop.TheVariants.{NoMemory};
 ghost use Rattle.tam_msgs.specs.Runs.{is_without};
 ghost use Rattle.tam_msgs.specs.Runs as Runs;
 ghost use Rattle.tam_run.specs.declared.outcome.Outcome.TheVariants as RunOutcome;
-ghost use Rattle.tl0_machine.specs.ThreadStates.{cause_of};
-ghost use Rattle.tam_run.specs.Writing.{told_of, outcome_of, Finishes, FinishesSo, StopsSo, CountsRun, CountsExec};
+ghost use Rattle.tam_run.specs.Accounts.{told_of};
+ghost use Rattle.tam_run.specs.Ends.{cause_of};
+ghost use Rattle.tam_run.specs.Writing.{outcome_of, Finishes, StopsSo, HaltsSo, CountsRun, CountsExec};
 
-use crate::last_lines::{is_printed, quiet_lines, stopped_lines, wild_lines};
+use crate::last_lines::{end_lines, is_printed, quiet_lines, stopped_lines};
+use crate::lines::{trap_line, wild_line};
 use crate::writing::put_lines;
-use crate::{Broken, Exec, Outcome};
+use crate::{Broken, Cause, Exec, Outcome, Tally};
+use rv_inst::TrapCause;
 use std::alloc::Global;
 use tam_edge::Sink;
-use tam_msgs::{Counts, Stop};
-use tl0_machine::Wild;
+use tam_msgs::Stop;
 
 // How many of the results below a number were not printed.
 fn missing_count(printed: &[(u32, u32)], results: u32) -> u32
@@ -44,13 +47,13 @@ pub fn finish_quiet<K: Sink>(
     alloc: Global,
     results: u32,
     printed: &[(u32, u32)],
-    counts: Counts,
+    tally: Tally,
     out: &mut K,
 ) -> Outcome
-    ensures text { Finishes (told_of printed.now Runs.Quiet results counts) (K.taken out.old) (K.taken out.new) result }
+    ensures text { Finishes (told_of printed.now Runs.Quiet results tally.counts) tally.instructions (K.taken out.old) (K.taken out.new) result }
     ensures counted { CountsRun (K.faults out.old) (K.faults out.new) result }
 {
-    match put_lines(quiet_lines(alloc, results, printed, counts), out) {
+    match put_lines(quiet_lines(alloc, results, printed, tally), out) {
         Ok(()) => Outcome::Quiet {
             missing: missing_count(printed, results),
         },
@@ -59,15 +62,15 @@ pub fn finish_quiet<K: Sink>(
 }
 
 /// Writes the lines behind the results of a run that stopped, and nothing for want of memory.
-pub fn finish_stopped<K: Sink>(alloc: Global, stop: Stop, counts: Counts, out: &mut K) -> Outcome
-    ensures text { StopsSo stop counts (K.taken out.old) (K.taken out.new) result }
+pub fn finish_stopped<K: Sink>(alloc: Global, stop: Stop, tally: Tally, out: &mut K) -> Outcome
+    ensures text { StopsSo stop tally (K.taken out.old) (K.taken out.new) result }
     ensures no_memory { stop ≡ NoMemory → (result ≡ RunOutcome.Stopped NoMemory) × (K.taken out.new ≡ K.taken out.old) }
     ensures counted { CountsRun (K.faults out.old) (K.faults out.new) result }
 {
     if let Stop::NoMemory = stop {
         return Outcome::Stopped(Stop::NoMemory);
     }
-    match put_lines(stopped_lines(alloc, stop, counts), out) {
+    match put_lines(stopped_lines(alloc, stop, tally), out) {
         Ok(()) => Outcome::Stopped(stop),
         Err(broken) => outcome_of(broken),
     }
@@ -76,17 +79,33 @@ pub fn finish_stopped<K: Sink>(alloc: Global, stop: Stop, counts: Counts, out: &
 /// Writes the lines behind the results of a run that is wild.
 pub fn finish_wild<K: Sink>(
     alloc: Global,
-    what: Wild,
+    what: Cause,
     number: u32,
-    counts: Counts,
+    tally: Tally,
     out: &mut K,
 ) -> Exec
-    ensures text { (results : ℕ) (printed : List (ℕ × ℕ)) → FinishesSo (told_of printed (Runs.Wild (cause_of what) number) results counts)
-        (K.taken out.old) (K.taken out.new) result }
+    ensures text { HaltsSo (Runs.Wild (cause_of what) number) tally (K.taken out.old) (K.taken out.new) result }
     ensures counted { CountsExec (K.faults out.old) (K.faults out.new) result }
 {
-    match put_lines(wild_lines(alloc, what, number, counts), out) {
+    match put_lines(end_lines(alloc, wild_line(alloc, what, number), tally), out) {
         Ok(()) => Exec::Wild,
+        Err(broken) => Exec::Run(outcome_of(broken)),
+    }
+}
+
+/// Writes the lines behind the results of a run that traps.
+pub fn finish_trap<K: Sink>(
+    alloc: Global,
+    pc: u32,
+    cause: TrapCause,
+    tally: Tally,
+    out: &mut K,
+) -> Exec
+    ensures text { HaltsSo (Runs.Trap pc (trap_text cause)) tally (K.taken out.old) (K.taken out.new) result }
+    ensures counted { CountsExec (K.faults out.old) (K.faults out.new) result }
+{
+    match put_lines(end_lines(alloc, trap_line(alloc, pc, cause), tally), out) {
+        Ok(()) => Exec::Trap,
         Err(broken) => Exec::Run(outcome_of(broken)),
     }
 }

@@ -1,24 +1,24 @@
 // A run of a graph, vertex by vertex.
-ghost use Rattle.tam_run.specs.GraphRemaining.{graph_remaining, GraphHasPrinted};
+ghost use Rattle.tam_run.specs.GraphTelling.{graph_stand, GraphTells};
 
 use crate::level_run::LevelRun;
+use crate::{Halt, Tally};
 use tam_eval::Eval;
-use tam_msgs::{Counts, Order, Step};
-use tl0_machine::Stop0;
+use tam_msgs::{Order, Step};
 
 impl<'g> LevelRun for Eval<'g> {
-    ghost has_printed = { GraphHasPrinted };
+    ghost tells = { GraphTells };
 
-    ghost remaining = { graph_remaining };
+    ghost stand = { graph_stand };
 
-    fn advance(&mut self, order: &mut Order) -> Result<Step, Stop0> {
-        match self.event(order) {
-            Ok(step) => Ok(step),
-            Err(stop) => Err(Stop0::Stop(stop)),
-        }
+    fn advance(&mut self, order: &mut Order) -> Result<Step, Halt> {
+        Ok(self.event(order)?)
     }
 
-    fn tally(&self) -> Counts {
-        self.counts()
+    fn tally(&self) -> Tally {
+        Tally {
+            counts: self.counts(),
+            instructions: None,
+        }
     }
 }

@@ -1,17 +1,17 @@
 // The lines behind those of the results.
-ghost use Rattle.std.specs.Prelude.{◌≡◌, ◌++◌, ◌∷◌, ◌==◌, map, filter, IfOk, OnOk, IfSome};
+ghost use Rattle.std.specs.Prelude.{◌≡◌, ◌++◌, ◌∷◌, ◌==◌, map, filter, IsOk, IfOk, OnOk, IfSome};
 ghost use Rattle.tam_word.specs.Lists.{below, any_of, where_so};
-ghost use Rattle.tam_msgs.specs.Runs.{line, end_text, missing_line, is_without, count_lines, last_lines};
+ghost use Rattle.tam_msgs.specs.Runs.{line, end_text, missing_line, is_without};
 ghost use Rattle.tam_msgs.specs.Runs as Runs;
-ghost use Rattle.tl0_machine.specs.ThreadStates.{cause_of};
+ghost use Rattle.tam_run.specs.Accounts.{told_of, closing_lines};
 ghost use Rattle.tam_run.specs.Ends.{end_of_stop};
 ghost use Rattle.tam_run.specs.LineLists.{texts_of};
-ghost use Rattle.tam_run.specs.Writing.{told_of};
+ghost use Rattle.tam_run.specs.Tallies.{tally_lines};
 
-use crate::lines::{missing_line, push_counts, push_line, stop_line, wild_line};
+use crate::Tally;
+use crate::lines::{missing_line, push_line, push_tally, stop_line};
 use std::alloc::{AllocError, Global};
-use tam_msgs::{Counts, Stop};
-use tl0_machine::Wild;
+use tam_msgs::Stop;
 
 /// Whether a result of that place was printed.
 pub fn is_printed(printed: &[(u32, u32)], place: u32) -> bool
@@ -62,38 +62,36 @@ pub fn quiet_lines(
     alloc: Global,
     results: u32,
     printed: &[(u32, u32)],
-    counts: Counts,
+    tally: Tally,
 ) -> Result<Vec<Vec<u8>>, AllocError>
-    ensures value { IfOk result (λ lines. texts_of lines.items ≡ last_lines (told_of printed.now Runs.Quiet results counts)) }
+    ensures value { IfOk result (λ lines. texts_of lines.items
+        ≡ closing_lines (told_of printed.now Runs.Quiet results tally.counts) tally.instructions) }
 {
     let mut lines = Vec::new(alloc);
     push_line(&mut lines, Vec::from_slice(alloc, b"quiet\n")?)?;
     push_missing(alloc, &mut lines, printed, results)?;
-    push_counts(alloc, &mut lines, counts)?;
+    push_tally(alloc, &mut lines, tally)?;
     Ok(lines)
 }
 
 /// The lines behind the results of a run that stopped so.
-pub fn stopped_lines(alloc: Global, stop: Stop, counts: Counts) -> Result<Vec<Vec<u8>>, AllocError>
-    ensures value { IfOk result (λ lines. IfSome (end_of_stop stop) (λ how. texts_of lines.items ≡ line (end_text how) ∷ count_lines counts.events counts.activations counts.cells)) }
+pub fn stopped_lines(alloc: Global, stop: Stop, tally: Tally) -> Result<Vec<Vec<u8>>, AllocError>
+    ensures value { IfOk result (λ lines. IfSome (end_of_stop stop) (λ how. texts_of lines.items ≡ line (end_text how) ∷ tally_lines tally)) }
 {
-    let mut lines = Vec::new(alloc);
-    push_line(&mut lines, stop_line(alloc, stop)?)?;
-    push_counts(alloc, &mut lines, counts)?;
-    Ok(lines)
+    end_lines(alloc, stop_line(alloc, stop), tally)
 }
 
-/// The lines behind the results of a run that is wild.
-pub fn wild_lines(
+/// The lines behind the results of a run that didn't become quiet, by the line of its end.
+pub fn end_lines(
     alloc: Global,
-    what: Wild,
-    number: u32,
-    counts: Counts,
+    end: Result<Vec<u8>, AllocError>,
+    tally: Tally,
 ) -> Result<Vec<Vec<u8>>, AllocError>
-    ensures value { IfOk result (λ lines. texts_of lines.items ≡ line (end_text (Runs.Wild (cause_of what) number)) ∷ count_lines counts.events counts.activations counts.cells) }
+    ensures value { IfOk result (λ lines. IfOk end (λ first. texts_of lines.items ≡ first.items ∷ tally_lines tally)) }
+    ensures made { IsOk result → IsOk end }
 {
     let mut lines = Vec::new(alloc);
-    push_line(&mut lines, wild_line(alloc, what, number)?)?;
-    push_counts(alloc, &mut lines, counts)?;
+    push_line(&mut lines, end?)?;
+    push_tally(alloc, &mut lines, tally)?;
     Ok(lines)
 }

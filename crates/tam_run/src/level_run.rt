@@ -1,28 +1,30 @@
 // A run at a level, event by event.
 ghost use Rattle.std.specs.Prelude.{◌≡◌, ℕ, List};
-ghost use Rattle.tam_run.specs.Remaining.{Remaining, Comes, HoldsBehind, PrintsMore};
+ghost use Rattle.tam_msgs.specs.declared.item.Item.{Item};
+ghost use Rattle.tam_run.specs.Accounts.{Account};
+ghost use Rattle.tam_run.specs.Telling.{Stand, Comes, TellsMore, printed_behind};
+ghost use Rattle.tam_run.specs.Tallies.{tally_of};
 
-use tam_msgs::{Counts, Order, Step};
-use tl0_machine::Stop0;
+use crate::{Halt, Tally};
+use tam_msgs::{Order, Step};
 
 /// A run at a level, event by event. Its caller keeps the order list and the results printed.
 pub trait LevelRun {
-    /// The run goes on, and has printed these results.
-    ghost has_printed: { Self → List (ℕ × ℕ) → Type 0 };
+    /// The run goes on, and under this order list and behind these results it tells this account.
+    ghost tells: { Self → List Item → List (ℕ × ℕ) → Account → Type 0 };
 
-    /// What is left of the run.
-    ghost remaining: { Self → Remaining };
+    /// Where the run stands.
+    ghost stand: { Self → Stand };
 
     /// Makes one event.
-    fn advance(&mut self, order: &mut Order) -> Result<Step, Stop0>
-        ensures event { (printed : List (ℕ × ℕ)) → has_printed self.old printed
-            → Comes (remaining self.old) (remaining self.new) order.old order.new printed result }
-        ensures behind { (printed : List (ℕ × ℕ)) → has_printed self.old printed → HoldsBehind (has_printed self.new) printed result }
+    fn advance(&mut self, order: &mut Order) -> Result<Step, Halt>
+        ensures event { (printed : List (ℕ × ℕ)) (a : Account) → tells self.old order.old printed a
+            → Comes (λ behind. tells self.new order.new behind a) (stand self.old) (stand self.new) printed a result }
 
-        // What was printed is a front of what the run prints.
-        ensures front { (printed : List (ℕ × ℕ)) → PrintsMore (remaining self.new) order.new printed };
+        // What was printed is a prefix of what is told.
+        ensures prefix { (printed : List (ℕ × ℕ)) (a : Account) → tells self.old order.old printed a → TellsMore a (printed_behind printed result) };
 
     /// What the run has counted.
-    fn tally(&self) -> Counts
-        ensures value { result ≡ (remaining self.now).counts };
+    fn tally(&self) -> Tally
+        ensures value { result ≡ tally_of (stand self.now) };
 }

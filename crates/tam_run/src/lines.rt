@@ -4,14 +4,18 @@ ghost use Rattle.std.specs.Fmt.{decimal};
 ghost use Rattle.tam_word.specs.Words.{signed_text};
 ghost use Rattle.tam_msgs.specs.Runs.{line, result_line, site_text, end_text, missing_line, count_lines};
 ghost use Rattle.tam_msgs.specs.Runs as End;
-ghost use Rattle.tl0_machine.specs.ThreadStates.{cause_of};
-ghost use Rattle.tam_run.specs.Ends.{end_of_stop};
+ghost use Rattle.rv_inst.specs.Traps.{trap_text};
+ghost use Rattle.tam_run.specs.Accounts.{instructions_line};
+ghost use Rattle.tam_run.specs.Ends.{end_of_stop, cause_of};
 ghost use Rattle.tam_run.specs.LineLists.{texts_of};
+ghost use Rattle.tam_run.specs.Tallies.{tally_lines};
 
+use crate::{Cause, Tally};
+use itoa::Buffer;
+use rv_inst::TrapCause;
 use std::alloc::{AllocError, Global};
 use tam_msgs::{Counts, Stop};
 use tam_word::{print_number, print_word};
-use tl0_machine::Wild;
 
 // A site is this times the number of a code, plus the number of a node.
 const SITES_OF_CODE: u32 = 1024;
@@ -125,17 +129,41 @@ pub fn stop_line(alloc: Global, stop: Stop) -> Result<Vec<u8>, AllocError>
 }
 
 /// The line of a run that is wild.
-pub fn wild_line(alloc: Global, what: Wild, number: u32) -> Result<Vec<u8>, AllocError>
+pub fn wild_line(alloc: Global, what: Cause, number: u32) -> Result<Vec<u8>, AllocError>
     ensures value { IfOk result (λ made. made.items ≡ line (end_text (End.Wild (cause_of what) number))) }
 {
     match what {
-        Wild::Frame => number_line(alloc, b"wild frame ", number),
-        Wild::Inlet => number_line(alloc, b"wild inlet ", number),
-        Wild::Thread => number_line(alloc, b"wild thread ", number),
-        Wild::Array => number_line(alloc, b"wild array ", number),
-        Wild::Place => number_line(alloc, b"wild result ", number),
-        Wild::Skip => number_line(alloc, b"wild skip ", number),
+        Cause::Frame => number_line(alloc, b"wild frame ", number),
+        Cause::Inlet => number_line(alloc, b"wild inlet ", number),
+        Cause::Thread => number_line(alloc, b"wild thread ", number),
+        Cause::Array => number_line(alloc, b"wild array ", number),
+        Cause::Place => number_line(alloc, b"wild result ", number),
+        Cause::Ecall => number_line(alloc, b"wild ecall ", number),
+        Cause::Skip => number_line(alloc, b"wild skip ", number),
     }
+}
+
+/// The line of a run that traps.
+pub fn trap_line(alloc: Global, pc: u32, cause: TrapCause) -> Result<Vec<u8>, AllocError>
+    ensures value { IfOk result (λ made. made.items ≡ line (end_text (End.Trap pc (trap_text cause)))) }
+{
+    let mut made = Vec::from_slice(alloc, b"trap ")?;
+    push_number(&mut made, pc)?;
+    made.extend_from_slice(b" ")?;
+    made.extend_from_slice(cause.text())?;
+    made.extend_from_slice(b"\n")?;
+    Ok(made)
+}
+
+// The line of a number of instructions.
+fn instructions_line(alloc: Global, instructions: u64) -> Result<Vec<u8>, AllocError>
+    ensures value { IfOk result (λ made. made.items ≡ instructions_line instructions) }
+{
+    let mut made = Vec::from_slice(alloc, b"instructions ")?;
+    let mut buffer = Buffer::new();
+    made.extend_from_slice(buffer.format(instructions).as_bytes())?;
+    made.extend_from_slice(b"\n")?;
+    Ok(made)
 }
 
 // Adds a line behind the others.
@@ -146,12 +174,8 @@ pub fn push_line(lines: &mut Vec<Vec<u8>>, line: Vec<u8>) -> Result<(), AllocErr
     Ok(())
 }
 
-/// Adds the lines of the counts.
-pub fn push_counts(
-    alloc: Global,
-    lines: &mut Vec<Vec<u8>>,
-    counts: Counts,
-) -> Result<(), AllocError>
+// Adds the lines of the counts.
+fn push_counts(alloc: Global, lines: &mut Vec<Vec<u8>>, counts: Counts) -> Result<(), AllocError>
     ensures ok { OnOk result (texts_of lines.new.items ≡ texts_of lines.old.items ++ count_lines counts.events counts.activations counts.cells) }
 {
     push_line(lines, number_line(alloc, b"events ", counts.events)?)?;
@@ -160,5 +184,16 @@ pub fn push_counts(
         number_line(alloc, b"activations ", counts.activations)?,
     )?;
     push_line(lines, number_line(alloc, b"cells ", counts.cells)?)?;
+    Ok(())
+}
+
+/// Adds the lines of the counts, and that of the instructions where they are counted.
+pub fn push_tally(alloc: Global, lines: &mut Vec<Vec<u8>>, tally: Tally) -> Result<(), AllocError>
+    ensures ok { OnOk result (texts_of lines.new.items ≡ texts_of lines.old.items ++ tally_lines tally) }
+{
+    push_counts(alloc, lines, tally.counts)?;
+    if let Some(instructions) = tally.instructions {
+        push_line(lines, instructions_line(alloc, instructions)?)?;
+    }
     Ok(())
 }

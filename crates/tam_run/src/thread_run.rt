@@ -1,20 +1,24 @@
 // A run of thread code, thread by thread.
-ghost use Rattle.tam_run.specs.ThreadRemaining.{thread_remaining, ThreadHasPrinted};
+ghost use Rattle.tam_run.specs.ThreadTelling.{thread_stand, ThreadTells};
 
 use crate::level_run::LevelRun;
-use tam_msgs::{Counts, Order, Step};
-use tl0_machine::{Machine0, Stop0};
+use crate::{Halt, Tally};
+use tam_msgs::{Order, Step};
+use tl0_machine::Machine0;
 
 impl LevelRun for Machine0 {
-    ghost has_printed = { ThreadHasPrinted };
+    ghost tells = { ThreadTells };
 
-    ghost remaining = { thread_remaining };
+    ghost stand = { thread_stand };
 
-    fn advance(&mut self, order: &mut Order) -> Result<Step, Stop0> {
-        self.event(order)
+    fn advance(&mut self, order: &mut Order) -> Result<Step, Halt> {
+        Ok(self.event(order)?)
     }
 
-    fn tally(&self) -> Counts {
-        self.counts()
+    fn tally(&self) -> Tally {
+        Tally {
+            counts: self.counts(),
+            instructions: None,
+        }
     }
 }

@@ -2,7 +2,7 @@
 ghost use Rattle.std.specs.Prelude.{◌≡◌, ◌++◌, ◌∷◌, [], Err, OnOk, OnErr, MatchResult};
 ghost use Rattle.std.specs.Io.KnownBytes.{Appends};
 ghost use Rattle.tam_edge.specs.Faults.{CountsPut};
-ghost use Rattle.tam_edge.specs.Whole.{AppendsFront};
+ghost use Rattle.tam_edge.specs.Whole.{AppendsPrefix};
 ghost use Rattle.tam_msgs.specs.Runs.{result_line};
 ghost use Rattle.tam_run.specs.LineLists.{bytes_of};
 ghost use Rattle.tam_run.specs.Writing.{Puts, CountsPuts};
@@ -14,7 +14,7 @@ use tam_edge::{Failed, Sink, write_whole};
 // Writes lines, one behind another.
 fn write_lines<K: Sink>(out: &mut K, lines: &[Vec<u8>]) -> Result<(), Failed>
     ensures ok { OnOk result (Appends (K.taken out.old) (K.taken out.new) (bytes_of lines.now)) }
-    ensures err { OnErr result (AppendsFront (K.taken out.old) (K.taken out.new) (bytes_of lines.now)) }
+    ensures err { OnErr result (AppendsPrefix (K.taken out.old) (K.taken out.new) (bytes_of lines.now)) }
     ensures counted { CountsPut (K.faults out.old) (K.faults out.new) result }
 {
     for line in lines {
@@ -25,7 +25,8 @@ fn write_lines<K: Sink>(out: &mut K, lines: &[Vec<u8>]) -> Result<(), Failed>
 
 /// Writes lines that were made, if they were.
 pub fn put_lines<K: Sink>(made: Result<Vec<Vec<u8>>, AllocError>, out: &mut K) -> Result<(), Broken>
-    ensures text { MatchResult made (λ lines. Puts (K.taken out.old) (K.taken out.new) (bytes_of lines.items) result) (λ _. (result ≡ Err Broken.NoMemory) × (K.taken out.new ≡ K.taken out.old)) }
+    ensures text { MatchResult made (λ lines. Puts (K.taken out.old) (K.taken out.new) (bytes_of lines.items) result)
+        (λ _. (result ≡ Err Broken.NoMemory) × (K.taken out.new ≡ K.taken out.old)) }
     ensures counted { CountsPuts (K.faults out.old) (K.faults out.new) result }
 {
     write_lines(out, &made?)?;
@@ -34,7 +35,8 @@ pub fn put_lines<K: Sink>(made: Result<Vec<Vec<u8>>, AllocError>, out: &mut K) -
 
 // Writes a line that was made, if it was.
 fn put_line<K: Sink>(made: Result<Vec<u8>, AllocError>, out: &mut K) -> Result<(), Broken>
-    ensures text { MatchResult made (λ line. Puts (K.taken out.old) (K.taken out.new) line.items result) (λ _. (result ≡ Err Broken.NoMemory) × (K.taken out.new ≡ K.taken out.old)) }
+    ensures text { MatchResult made (λ line. Puts (K.taken out.old) (K.taken out.new) line.items result)
+        (λ _. (result ≡ Err Broken.NoMemory) × (K.taken out.new ≡ K.taken out.old)) }
     ensures counted { CountsPuts (K.faults out.old) (K.faults out.new) result }
 {
     write_whole(out, &made?)?;

@@ -1,23 +1,18 @@
 use Rattle.std.specs.Prelude.{Ok, Err}
-use Rattle.tam_run.proofs.GraphEvents.{graph-came, graph-prints}
+use Rattle.tam_run.specs.declared.halt.Halt.TheVariants as halt
+use Rattle.tam_run.proofs.GraphEvents.{graph-came}
+use Rattle.tam_run.proofs.RunSteps.{error-is}
 use Rattle.tam_run.proofs.graph_run.EvalLevelRun.advance.Goals as goal
 
-pub returns-in-Ok : goal.returns-in-Ok
-returns-in-Ok c =
-    let came = graph-came c.args.self.now c.event.new.self c.args.order.now c.event.new.order (Ok c.in-Ok.step)
-    (record { event = c.in-Ok.ensures.event; graph = c.in-Ok.ensures.graph; limits = c.in-Ok.ensures.limits }) in
-    record {
-      event = λ printed has. (came printed has).0;
-      behind = λ printed has. (came printed has).1;
-      front = graph-prints c.event.new.self c.event.new.order;
-    }
+pub returns : goal.returns
+returns c =
+    let came = graph-came c.args.self.now c.event.new.self c.args.order.now c.event.new.order (Ok c.in_ok-event.field-0)
+    (record { event = c.in_ok-event.ensures.event; graph = c.in_ok-event.ensures.graph; limits = c.in_ok-event.ensures.limits }) in
+    record { event = λ printed a tells. (came printed a tells).0; prefix = λ printed a tells. (came printed a tells).1 }
 
-pub returns-in-Err : goal.returns-in-Err
-returns-in-Err c =
-    let came = graph-came c.args.self.now c.event.new.self c.args.order.now c.event.new.order (Err c.in-Err.stop)
-    (record { event = c.in-Err.ensures.event; graph = c.in-Err.ensures.graph; limits = c.in-Err.ensures.limits }) in
-    record {
-      event = λ printed has. (came printed has).0;
-      behind = λ printed has. (came printed has).1;
-      front = graph-prints c.event.new.self c.event.new.order;
-    }
+pub returns-in_err-event : goal.returns-in_err-event
+returns-in_err-event c =
+    let came = graph-came c.args.self.now c.event.new.self c.args.order.now c.event.new.order (Err c.in_err-event.field-0.0)
+    (record { event = c.in_err-event.ensures.event; graph = c.in_err-event.ensures.graph; limits = c.in_err-event.ensures.limits }) in
+    let is = error-is c.from_residual.result (halt.Stop c.in_err-event.field-0.0) c.from_residual.ensures.1 in
+    record { event = λ printed a tells. rw is (came printed a tells).0; prefix = λ printed a tells. rw is (came printed a tells).1 }

@@ -1,4 +1,4 @@
--- Fronts of texts that are written line by line.
+-- Prefixes of texts that are written line by line.
 use Rattle.std.proofs.Common.{◌≡◌, ◌<◌, ◌+◌, ℕ, List, [], ◌∷◌, ◌++◌, length, take, drop, get_or, Vec, sym, ◌∙◌, ap, append_assoc}
 use Rattle.std.specs.Prelude.{Option, None, Some, Result, Ok, Err, OnErr}
 use Rattle.std.specs.declared.alloc.Global.{Global}
@@ -6,13 +6,13 @@ use Rattle.std.proofs.lemmas.List.{append-nil, take-append-drop, take_more}
 use Rattle.std.proofs.lemmas.Grind.{flat_map-append}
 use Rattle.std.specs.Io.KnownBytes.{Appends}
 use Rattle.std.proofs.KnownBytes.{Appends-trans}
-use Rattle.tam_edge.specs.Whole.{AppendsFront}
+use Rattle.tam_edge.specs.Whole.{AppendsPrefix}
 use Rattle.tam_run.specs.LineLists.{bytes_of}
 
--- a part was taken, and then a front of the next
-pub front-more : (old mid new : Option (List ℕ)) (first second rest whole : List ℕ) → Appends old mid first → AppendsFront mid new second
-    → whole ≡ first ++ (second ++ rest) → AppendsFront old new whole
-front-more old mid new first second rest whole before after is = (
+-- a part was taken, and then a prefix of the next
+pub prefix-more : (old mid new : Option (List ℕ)) (first second rest whole : List ℕ) → Appends old mid first → AppendsPrefix mid new second
+    → whole ≡ first ++ (second ++ rest) → AppendsPrefix old new whole
+prefix-more old mid new first second rest whole before after is = (
   first ++ after.0,
   after.1 ++ rest,
   is ∙ ap (λ l. first ++ (l ++ rest)) after.2 ∙ ap (λ l. first ++ l) (append_assoc after.0 after.1 rest) ∙ sym (append_assoc first after.0 (after.1 ++ rest)),

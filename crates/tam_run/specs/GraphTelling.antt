@@ -1,12 +1,14 @@
--- What is left of a run of a graph.
-use Rattle.std.specs.Prelude.{ℕ, ◌-◌, ◌≤◌, ◌≡◌, List, None, length}
+-- What a run of a graph tells from a state on.
+use Rattle.std.specs.Prelude.{ℕ, ◌≡◌, List, [], None, length}
 use Rattle.tam_graph.specs.Graphs.{Graph, code_of, results_of}
 use Rattle.tam_istr.specs.Cells.{cells_used}
 use Rattle.tam_msgs.specs.declared.counts.Counts.{Counts}
+use Rattle.tam_msgs.specs.declared.item.Item.{Item}
 use Rattle.tam_msgs.specs.declared.limits.Limits.{Limits}
 use Rattle.tam_eval.specs.GraphRuns.{GraphState, graph_step}
 use Rattle.tam_eval.specs.Events.{EvalRun, state_with}
-use Rattle.tam_run.specs.Remaining.{Run, Remaining, told_from}
+use Rattle.tam_run.specs.Accounts.{Account}
+use Rattle.tam_run.specs.Telling.{Run, Tells, Stand, stand_in}
 
 -- what a state has counted
 abbrev pub graph_counts : GraphState → Counts
@@ -20,21 +22,14 @@ graph_run g limits = record {
   results = results_of (code_of g g.main);
   printed = λ s. s.printed;
   counts = graph_counts;
+  machine = λ s. None;
 }
 
--- what is left of it
-abbrev pub graph_remaining : EvalRun → Remaining
-graph_remaining run = record {
-  told = λ order printed. told_from (graph_run run.graph run.limits) (state_with run.state order printed);
-  room = run.limits.budget - run.state.events;
-  counts = record {
-    events = run.state.events;
-    activations = length run.state.world.activations;
-    cells = cells_used run.state.world.arrays;
-  };
-}
+-- where it stands, whatever is left of the order list and whatever was printed
+abbrev pub graph_stand : EvalRun → Stand
+graph_stand run = stand_in (graph_run run.graph run.limits) (state_with run.state [] [])
 
--- it goes on, within its budget, whatever was printed
-pub record GraphHasPrinted (run : EvalRun) (printed : List (ℕ × ℕ)) : Type 0 where
+-- it goes on, and under this order list and behind these results it tells this account
+pub record GraphTells (run : EvalRun) (order : List Item) (printed : List (ℕ × ℕ)) (a : Account) : Type 0 where
   pub going : run.stopped ≡ None
-  pub few : run.state.events ≤ run.limits.budget
+  pub tells : Tells (graph_run run.graph run.limits) (state_with run.state order printed) a

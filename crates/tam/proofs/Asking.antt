@@ -12,7 +12,7 @@ use Rattle.tam_input.specs.declared.ending.Ending.TheVariants.{ReadFault}
 use Rattle.tam_input.specs.Told.{Told, Contents}
 use Rattle.tam_input.specs.Refusing.{IsOrder, from_words, from_file, Refuses, usage, order_failed, long_order, no_order, text_failed, too_long, wanted}
 use Rattle.tam_input.specs.Refusing.{text_file, text_of, bytes_of, most_bytes, most_order_bytes, refusal_ending, refusal_line, read_fault_line}
-use Rattle.tam_input.specs.Inputs.{Request, request_of, Names}
+use Rattle.tam_input.specs.Inputs.{Request, request_of, Names, IsInput}
 use Rattle.tam.specs.Answers.{Answer, AnswerTo, refused, answered, wanted as out}
 use Rattle.tam.specs.Asks.{AsksText}
 use Rattle.tam.specs.Headline.{ReadFailed}
@@ -83,6 +83,16 @@ module _ (words : Asked) (contents : Contents) (before now : Told) (ask : Reques
   early r (too_long {job = j} {file = n} e o is more ends) = let few = read j e n is in absurd (omega (arith, more, few))
   early r (wanted n few ends) = inr refl
 
+  -- what was read is what is asked for
+  pub same-input : (request : Request) (read-bytes : List ℕ) → IsInput words contents before now request read-bytes → (request ≡ ask) × (read-bytes ≡ bytes)
+  same-input request read-bytes input =
+      let job = same-job input.job input.asked in
+      let order : input.order ≡ asks.order = order-once asks.job contents input.order asks.order
+      (subst (λ k. IsOrder k contents input.order) job input.ordered) asks.ordered in (
+        input.same ∙ ap (λ k. request_of k input.order) job ∙ ap (request_of asks.job) order ∙ sym asks.same,
+        sym input.text ∙ ap (λ j. text_of j contents) job ∙ asks.text,
+      )
+
   -- whatever is answered is an answer to the bytes, or that a read failed
   pub told-input : (end : Ending) (text : List ℕ) → Answer words contents before now end text
       → AnswerTo ask bytes end text ⊎ ((end ≡ ReadFault) × (text ≡ read_fault_line) × ReadFailed words before now)
@@ -94,8 +104,4 @@ module _ (words : Asked) (contents : Contents) (before now : Told) (ask : Reques
       go (inl f) = inr (ap refusal_ending f.0, ap refusal_line f.0, f.1)
       go (inr e) = inl (subst (λ q. AnswerTo ask bytes (refusal_ending q) (refusal_line q)) (sym e) out)
   told-input end text (answered {request = q} {bytes = b} input a) =
-      let job = same-job input.job input.asked in
-      let order : input.order ≡ asks.order = order-once asks.job contents input.order asks.order (subst (λ k. IsOrder k contents input.order) job input.ordered) asks.ordered in
-      let request : q ≡ ask = input.same ∙ ap (λ k. request_of k input.order) job ∙ ap (request_of asks.job) order ∙ sym asks.same in
-      let same : b ≡ bytes = sym input.text ∙ ap (λ j. text_of j contents) job ∙ asks.text in
-      inl (subst (λ x. AnswerTo ask x end text) same (subst (λ k. AnswerTo k b end text) request a))
+      let same = same-input q b input in inl (subst (λ x. AnswerTo ask x end text) same.1 (subst (λ k. AnswerTo k b end text) same.0 a))

@@ -15,16 +15,21 @@ use Rattle.tam_input.specs.Inputs.{Request}
 use Rattle.tl0_code.specs.declared.bad_cause.BadCause.{BadCause}
 use Rattle.tl0_code.specs.ThreadCode.{Program}
 use Rattle.tl0_code.specs.CodeRules.{first_fault as first_in_code}
+use Rattle.rv_image.specs.declared.image_error.ImageCause.{ImageCause}
 use Rattle.rv_image.specs.ImageFiles.{image_bytes}
+use Rattle.rv_inst.specs.Images.{Image}
 use Rattle.rv_asm.proofs.TextsRead.{one_image}
 use Rattle.tam.specs.AnswerLines.{refused_line, read_cause_name, check_cause_name, asm_cause_name, code_text_cause_name}
+use Rattle.tam.specs.AnswerLines.{refused_byte_line, image_cause_name}
 use Rattle.tam.specs.GraphAnswers.{AsksGraph, GraphDue, not_graph, not_accepted, listed, wrong_count, listing}
 use Rattle.tam.specs.CodeAnswers.{AsksCode, CodeDue, not_code, not_checked, code_fault_line, main_params}
 use Rattle.tam.specs.CodeAnswers as code
-use Rattle.tam.specs.Due.{AssemblyDue, assembled, not_assembled, IsDue, of_graph, of_assembly, of_code, HasRun, graph_run, code_run}
-use Rattle.tam.specs.Answers.{AnswerTo, due, ran, code_ran, made, wanted}
-use Rattle.tam.proofs.Modes.{runs-graph, reads-other, level-other, lists-no, code-assembles}
-use Rattle.tam.proofs.Spelling.{reads-once, no-fault, not-refused, code-once, no-text-fault, no-code-fault, no-asm-fault}
+use Rattle.tam.specs.ImageAnswers.{AsksImage, ImageDue, not_image}
+use Rattle.tam.specs.ImageAnswers as image
+use Rattle.tam.specs.Due.{AssemblyDue, assembled, not_assembled, IsDue, of_graph, of_assembly, of_code, of_image, HasRun, graph_run, code_run, image_run}
+use Rattle.tam.specs.Answers.{AnswerTo, due, ran, code_ran, image_ran, made, wanted}
+use Rattle.tam.proofs.Modes.{runs-graph, reads-other, level-other, lists-no, code-assembles, image-assembles, image-code}
+use Rattle.tam.proofs.Spelling.{reads-once, no-fault, not-refused, code-once, no-text-fault, no-code-fault, no-asm-fault, image-once, no-image-fault}
 
 -- ---- lines
 
@@ -54,6 +59,14 @@ code-fault-line : (p : Program) (f h : ℕ × ℕ × BadCause) → ◌≡◌ {A 
 code-fault-line p f h e = ap (code_fault_line p) (same e)
   where
     same : ◌≡◌ {A = Option (ℕ × ℕ × BadCause)} (Some f) (Some h) → f ≡ h
+    same e = cc
+
+-- and that of an image file that is refused
+byte-line : (n m : ℕ) (c d : ImageCause) → ◌≡◌ {A = Option (ℕ × ImageCause)} (Some (n, c)) (Some (m, d))
+    → refused_byte_line n (image_cause_name c) ≡ refused_byte_line m (image_cause_name d)
+byte-line n m c d e = ap (λ (p : ℕ × ImageCause). refused_byte_line p.0 (image_cause_name p.1)) (same e)
+  where
+    same : ◌≡◌ {A = Option (ℕ × ImageCause)} (Some (n, c)) (Some (m, d)) → ◌≡◌ {A = ℕ × ImageCause} (n, c) (m, d)
     same e = cc
 
 -- ---- one thing is due
@@ -109,17 +122,31 @@ module _ (ask : Request) (bytes : List ℕ) where
       absurd (no-code-fault p x w.checked (subst (λ k. first_in_code k ≡ Some x) (code-once bytes p q w.reads r) f))
   code-due-once a b s t (code.wrong_count w e) (code.wrong_count v f) = (refl, refl)
 
+  -- to the file of an image
+  image-due-once : (a b : Ending) (s t : List ℕ) → ImageDue ask bytes a s → ImageDue ask bytes b t → (a ≡ b) × (s ≡ t)
+  image-due-once a b s t (not_image {n = n} {cause = c} e) (not_image {n = m} {cause = d} f) = (refl, byte-line n m c d (sym e ∙ f))
+  image-due-once a b s t (not_image {n = n} {cause = c} e) (image.wrong_count {image = i} p f) = absurd (no-image-fault bytes i n c p e)
+  image-due-once a b s t (image.wrong_count {image = i} p e) (not_image {n = n} {cause = c} f) = absurd (no-image-fault bytes i n c p f)
+  image-due-once a b s t (image.wrong_count p e) (image.wrong_count q f) = (refl, refl)
+
   -- so one text is due, under one ending
   pub due-once : (a b : Ending) (s t : List ℕ) → IsDue ask bytes a s → IsDue ask bytes b t → (a ≡ b) × (s ≡ t)
   due-once a b s t (of_graph m d) (of_graph l e) = graph-once a b s t d e
   due-once a b s t (of_graph m d) (of_assembly l e) = absurd (reads-other ask.mode mode.Assemble m l refl)
   due-once a b s t (of_graph m d) (of_code l e) = absurd (reads-other ask.mode mode.ExecTl0 m l refl)
+  due-once a b s t (of_graph m d) (of_image l e) = absurd (reads-other ask.mode mode.ExecRv32 m l refl)
   due-once a b s t (of_assembly m d) (of_graph l e) = absurd (reads-other ask.mode mode.Assemble l m refl)
   due-once a b s t (of_assembly m d) (of_assembly l e) = assembly-once a b s t d e
   due-once a b s t (of_assembly m d) (of_code l e) = absurd (code-assembles ask.mode l m)
+  due-once a b s t (of_assembly m d) (of_image l e) = absurd (image-assembles ask.mode l m)
   due-once a b s t (of_code m d) (of_graph l e) = absurd (reads-other ask.mode mode.ExecTl0 l m refl)
   due-once a b s t (of_code m d) (of_assembly l e) = absurd (code-assembles ask.mode m l)
   due-once a b s t (of_code m d) (of_code l e) = code-due-once a b s t d e
+  due-once a b s t (of_code m d) (of_image l e) = absurd (image-code ask.mode l m)
+  due-once a b s t (of_image m d) (of_graph l e) = absurd (reads-other ask.mode mode.ExecRv32 l m refl)
+  due-once a b s t (of_image m d) (of_assembly l e) = absurd (image-assembles ask.mode m l)
+  due-once a b s t (of_image m d) (of_code l e) = absurd (image-code ask.mode m l)
+  due-once a b s t (of_image m d) (of_image l e) = image-due-once a b s t d e
 
   -- ---- none is due where a run is asked for
 
@@ -140,14 +167,26 @@ module _ (ask : Request) (bytes : List ℕ) where
   code-no-fault {p} asks a s (code.wrong_count {p = q} w differ) =
       differ (subst (λ k. length ask.args ≡ main_params k) (sym (code-once bytes p q asks.spelled.reads w.reads)) asks.one_each)
 
-  -- of either
+  -- of an image
+  image-no-fault : {i : Image} → AsksImage ask bytes i → (a : Ending) (s : List ℕ) → ImageDue ask bytes a s → ⊥
+  image-no-fault {i} asks a s (not_image {n = n} {cause = c} e) = no-image-fault bytes i n c asks.spelled e
+  image-no-fault {i} asks a s (image.wrong_count {image = j} p differ) =
+      differ (subst (λ k. length ask.args ≡ k.params) (sym (image-once bytes i j asks.spelled p)) asks.one_each)
+
+  -- of each
   pub run-not-due : HasRun ask bytes → (a : Ending) (s : List ℕ) → IsDue ask bytes a s → ⊥
   run-not-due (graph_run asks) a s (of_graph m d) = run-no-fault asks a s d
   run-not-due (graph_run {level = l} asks) a s (of_assembly m d) = level-other ask.mode mode.Assemble l asks.mode m refl
   run-not-due (graph_run {level = l} asks) a s (of_code m d) = level-other ask.mode mode.ExecTl0 l asks.mode m refl
+  run-not-due (graph_run {level = l} asks) a s (of_image m d) = level-other ask.mode mode.ExecRv32 l asks.mode m refl
   run-not-due (code_run asks) a s (of_graph m d) = reads-other ask.mode mode.ExecTl0 m asks.mode refl
   run-not-due (code_run asks) a s (of_assembly m d) = code-assembles ask.mode asks.mode m
   run-not-due (code_run asks) a s (of_code m d) = code-no-fault asks a s d
+  run-not-due (code_run asks) a s (of_image m d) = image-code ask.mode m asks.mode
+  run-not-due (image_run asks) a s (of_graph m d) = reads-other ask.mode mode.ExecRv32 m asks.mode refl
+  run-not-due (image_run asks) a s (of_assembly m d) = image-assembles ask.mode asks.mode m
+  run-not-due (image_run asks) a s (of_code m d) = image-code ask.mode asks.mode m
+  run-not-due (image_run asks) a s (of_image m d) = image-no-fault asks a s d
 
   -- ---- what is answered
 
@@ -157,5 +196,6 @@ module _ (ask : Request) (bytes : List ℕ) where
   answer-due read a s (due d) = inl d
   answer-due read a s (ran asks says) = inr (inl (graph_run asks))
   answer-due read a s (code_ran asks says) = inr (inl (code_run asks))
+  answer-due read a s (image_ran asks says) = inr (inl (image_run asks))
   answer-due read a s (made m is says) = absurd (true≢false (sym (ap makes m) ∙ read))
   answer-due read a s wanted = inr (inr refl)

@@ -1,5 +1,6 @@
 -- The text of a large input is short enough to be read.
-use Rattle.std.proofs.Common.{◌≡◌, ◌∙◌, ℕ, zero, suc, ◌+◌, ◌*◌, ◌<◌, ◌≤◌, Bool, true, false, List, [], ◌∷◌, ◌++◌, length, flat_map, refl, ap, arith, length-append}
+use Rattle.std.proofs.Common.{◌≡◌, ◌∙◌, ℕ, zero, suc, ◌+◌, ◌*◌, ◌<◌, ◌≤◌, Bool, true, false, List, [], ◌∷◌, ◌++◌, length, flat_map, refl, ap, arith}
+use Rattle.std.proofs.Common.{length-append}
 use Rattle.std.specs.Prelude.{codes, decimal, if◌then◌else◌, nat_lt}
 use Rattle.std.proofs.lemmas.Fmt.{length-decimal-le}
 use Rattle.std.proofs.lemmas.Grind.{flat_map-append}
@@ -25,12 +26,12 @@ digits-few n l = length-decimal-le 3 n (omega arith) l (omega (arith, l))
 all-short : (f : ℕ → List ℕ) (m n : ℕ) → ((i : ℕ) → i < n → length (f i) ≤ m) → length (flat_map f (below n)) ≤ n * m
 all-short f m zero h = omega arith
 all-short f m (suc n) h =
-    let front = all-short f m n (λ i l. h i (omega (arith, l))) in
+    let prefix = all-short f m n (λ i l. h i (omega (arith, l))) in
     let last = h n (omega arith) in
     let joined = flat_map-append f (below n) (n ∷ []) ∙ ap (λ l. flat_map f (below n) ++ l) (append-nil (f n)) in
     let len = ap length joined ∙ length-append (flat_map f (below n)) (f n) in
     let times : suc n * m ≡ n * m + m = grind arith in
-    omega (arith, front, last, len, times)
+    omega (arith, prefix, last, len, times)
 
 -- a line that adds once more
 rung-short : (i : ℕ) → i < 99 → length (rung_text i) ≤ 18
@@ -59,11 +60,14 @@ step-short n k l =
     let ends = both (flat_map rung_text (below 99)) (end_text n k) 1782 63 rungs (end-short n k l) in
     let adds = then-text (codes "\na1 = add x k\n") (flat_map rung_text (below 99) ++ end_text n k) 14 1845 refl ends in
     let number = both (decimal k) (codes "\na1 = add x k\n" ++ (flat_map rung_text (below 99) ++ end_text n k)) 3 1859 own adds in
-    let inlet = then-text (codes "\nx = param 0\nk = const ") (decimal k ++ (codes "\na1 = add x k\n" ++ (flat_map rung_text (below 99) ++ end_text n k))) 23 1862 refl number in
-    let name = both (decimal k) (codes "\nx = param 0\nk = const " ++ (decimal k ++ (codes "\na1 = add x k\n" ++ (flat_map rung_text (below 99) ++ end_text n k)))) 3 1885
+    let inlet = then-text (codes "\nx = param 0\nk = const ") (decimal k ++
+    (codes "\na1 = add x k\n" ++ (flat_map rung_text (below 99) ++ end_text n k))) 23 1862 refl number in
+    let name = both (decimal k) (codes "\nx = param 0\nk = const " ++ (decimal k ++
+    (codes "\na1 = add x k\n" ++ (flat_map rung_text (below 99) ++ end_text n k)))) 3 1885
     own inlet in
     then-text (codes "code s")
-    (decimal k ++ (codes "\nx = param 0\nk = const " ++ (decimal k ++ (codes "\na1 = add x k\n" ++ (flat_map rung_text (below 99) ++ end_text n k))))) 6 1888 refl name
+    (decimal k ++ (codes "\nx = param 0\nk = const " ++ (decimal k ++ (codes "\na1 = add x k\n" ++ (flat_map rung_text (below 99) ++ end_text n k)))))
+    6 1888 refl name
 
 -- the text of a large input
 pub made-short : (shape : Shape) (n : ℕ) → IsCount shape n → length (made_text shape n) ≤ 1048576

@@ -1,4 +1,4 @@
--- What is known of the modes that run a graph, and of the one that runs thread code.
+-- What is known of the modes that run a graph, and of those that run thread code and images.
 use Rattle.std.proofs.Common.{◌≡◌, true, false, refl, sym, ◌∙◌, ap, List, ℕ, true≢false}
 use Rattle.std.specs.Prelude.{Option, Some, None}
 use Rattle.tam_graph.specs.Graphs.{Graph}
@@ -27,13 +27,17 @@ pub record RunsGraph (m : Mode) : Type 0 where
 pub runs-graph : (m : Mode) (level : Level) → level_of m ≡ Some level → RunsGraph m
 runs-graph mode.Graph level e = record { reads_it = refl; runs_it = refl; makes_none = refl; lists_none = λ g. refl }
 runs-graph mode.Tl0 level e = record { reads_it = refl; runs_it = refl; makes_none = refl; lists_none = λ g. refl }
+runs-graph mode.Rv32 level e = record { reads_it = refl; runs_it = refl; makes_none = refl; lists_none = λ g. refl }
 runs-graph mode.Check level e = absurd (none-some level e)
 runs-graph mode.EmitDg level e = absurd (none-some level e)
 runs-graph mode.Sets level e = absurd (none-some level e)
 runs-graph mode.Parts level e = absurd (none-some level e)
 runs-graph mode.EmitTl0 level e = absurd (none-some level e)
+runs-graph mode.EmitAsm level e = absurd (none-some level e)
+runs-graph mode.EmitImage level e = absurd (none-some level e)
 runs-graph mode.Assemble level e = absurd (none-some level e)
 runs-graph mode.ExecTl0 level e = absurd (none-some level e)
+runs-graph mode.ExecRv32 level e = absurd (none-some level e)
 runs-graph mode.Make level e = absurd (none-some level e)
 
 -- a mode that reads a graph is none that doesn't
@@ -51,6 +55,18 @@ code-makes m e f = cc
 -- nor does it assemble
 pub code-assembles : (m : Mode) → m ≡ mode.ExecTl0 → m ≡ mode.Assemble → ⊥
 code-assembles m e f = cc
+
+-- what runs an image makes nothing
+pub image-makes : (m : Mode) → m ≡ mode.ExecRv32 → m ≡ mode.Make → ⊥
+image-makes m e f = cc
+
+-- nor does it assemble
+pub image-assembles : (m : Mode) → m ≡ mode.ExecRv32 → m ≡ mode.Assemble → ⊥
+image-assembles m e f = cc
+
+-- nor does it run thread code
+pub image-code : (m : Mode) → m ≡ mode.ExecRv32 → m ≡ mode.ExecTl0 → ⊥
+image-code m e f = cc
 
 -- a mode that lists nothing lists no text
 pub lists-no : (m : Mode) (g : Graph) (text : List ℕ) → listing m g ≡ None → listing m g ≡ Some text → ⊥

@@ -2,7 +2,7 @@
 use Rattle.std.proofs.Common.{◌≡◌, ◌≢◌, ◌⊎◌, inl, inr, ⊎_elim, ℕ, true, false, List, [], ◌∷◌, refl, sym, ◌∙◌, ap, subst, true≢false}
 use Rattle.std.specs.Prelude.{Option, Some, None}
 use Rattle.std.specs.Io.KnownBytes.{Appends}
-use Rattle.tam_edge.specs.Whole.{AppendsFront}
+use Rattle.tam_edge.specs.Whole.{AppendsPrefix}
 use Rattle.tam_graph.specs.Graphs.{Graph}
 use Rattle.tam_graph.specs.Reading.{Reads}
 use Rattle.tam_graph.specs.Accepted.{IsAccepted}
@@ -28,15 +28,14 @@ use Rattle.tam_input.specs.Told.{Told, Contents}
 use Rattle.tam_input.specs.Refusing.{Refuses, usage, order_failed, long_order, no_order, text_failed, too_long, wanted, text_file, unless_read}
 use Rattle.tam_input.specs.Refusing.{refusal_ending, refusal_line}
 use Rattle.tam_input.specs.Inputs.{Request}
-use Rattle.tam.specs.MadeRuns.{argument_of, levels, made_report, made_lines, made_ending, SaysLines, all_lines, first_lines, SaysMade, of_graph, no_graph}
-use Rattle.tam.specs.Due.{IsDue, of_graph, of_assembly, of_code}
-use Rattle.tam.specs.Answers.{Answer, AnswerTo, refused, answered, due, ran, code_ran, made, wanted as out}
+use Rattle.tam.specs.MadeRuns.{argument_of, levels, made_run, made_lines, made_ending, SaysLines, all_lines, first_lines, SaysMade, of_graph, no_graph}
+use Rattle.tam.specs.Due.{IsDue, of_graph, of_assembly, of_code, of_image}
+use Rattle.tam.specs.Answers.{Answer, AnswerTo, refused, answered, due, ran, code_ran, image_ran, made, wanted as out}
 use Rattle.tam.specs.RightMade.{AsksMade, LinesOut, TookLines, IsRightMade}
 use Rattle.tam.specs.Headline.{IsDone}
 use Rattle.tam.proofs.Endings.{broke-or}
 use Rattle.tam.proofs.Modes.{level-other, reads-other}
 use Rattle.tam.proofs.Saying.{done-more}
-use Rattle.tam.proofs.Running.{not-broken, not-wanting}
 use Rattle.tam.proofs.SaidLines.{not-of-levels}
 use Rattle.tam.proofs.MadeArguments.{made-arguments, usual-in-range}
 use Rattle.tam.proofs.Spelling.{reads-once}
@@ -45,13 +44,17 @@ use Rattle.tam.proofs.Spelling.{reads-once}
 makes-is : (m : Mode) → makes m ≡ true → m ≡ mode.Make
 makes-is mode.Graph e = absurd (true≢false (sym e))
 makes-is mode.Tl0 e = absurd (true≢false (sym e))
+makes-is mode.Rv32 e = absurd (true≢false (sym e))
 makes-is mode.Check e = absurd (true≢false (sym e))
 makes-is mode.EmitDg e = absurd (true≢false (sym e))
 makes-is mode.Sets e = absurd (true≢false (sym e))
 makes-is mode.Parts e = absurd (true≢false (sym e))
 makes-is mode.EmitTl0 e = absurd (true≢false (sym e))
+makes-is mode.EmitAsm e = absurd (true≢false (sym e))
+makes-is mode.EmitImage e = absurd (true≢false (sym e))
 makes-is mode.Assemble e = absurd (true≢false (sym e))
 makes-is mode.ExecTl0 e = absurd (true≢false (sym e))
+makes-is mode.ExecRv32 e = absurd (true≢false (sym e))
 makes-is mode.Make e = refl
 
 -- it is no other mode
@@ -85,7 +88,7 @@ module _ (lines : List (List ℕ)) (meant : Ending) where
   says-which : (Taken : List ℕ → Type 0) (end : Ending) (text : List ℕ) → SaysLines lines meant end text → Taken text
       → ((end ≡ meant) × Taken (joined lines)) ⊎ ((end ≡ NoMemory) × LinesOut Taken lines)
   says-which Taken end text all_lines taken = inl (refl, taken)
-  says-which Taken end text (first_lines front rest is) taken = inr (refl, (front, rest, is, taken))
+  says-which Taken end text (first_lines prefix rest is) taken = inr (refl, (prefix, rest, is, taken))
 
   -- by what was done
   took-lines : (end : Ending) (old new : Option (List ℕ)) (faults faults_new : ℕ) → meant ≢ NoMemory → meant ≢ WriteFault
@@ -93,7 +96,7 @@ module _ (lines : List (List ℕ)) (meant : Ending) where
   took-lines end old new faults faults_new not-out not-broken done = record {
     whole = λ e. ⊎_elim (λ a. a.1) (λ o. absurd (not-out (sym e ∙ o.0))) (which (λ w. not-broken (sym e ∙ w)));
     first_lines = λ e. ⊎_elim (λ a. absurd (not-out (sym a.0 ∙ e))) (λ o. o.1) (which (λ w. wanting-broken (sym e ∙ w)));
-    front = λ e. let b = done.broken e in ⊎_elim (λ a. inl a.1) (λ o. inr o.1) (says-which (AppendsFront old new) b.0 b.1 b.2 b.3);
+    prefix = λ e. let b = done.broken e in ⊎_elim (λ a. inl a.1) (λ o. inr o.1) (says-which (AppendsPrefix old new) b.0 b.1 b.2 b.3);
     no_other = ⊎_elim (λ e. inr (inl e)) (λ n. ⊎_elim (λ a. inl a.0) (λ o. inr (inr o.0)) (which n)) (broke-or end);
   }
     where
@@ -121,7 +124,8 @@ module _ (words : List (List ℕ)) (contents : Contents) (before now : Told) (sh
   no-order job e file is = none-some file (sym (ap (λ j. j.order_file) (same-job job e) ∙ right-job.no_order_file asks.makes_it) ∙ is)
 
   no-text : (job : JobParts) → asked words ≡ Job job → (file : List ℕ) → text_file job ≡ Some file → ⊥
-  no-text job e file is = none-some file (subst (λ t. (elim t [ true ↦ unless_read job.order_file job.name | false ↦ None ]) ≡ Some file) (ap reads_file (mode-is job e)) is)
+  no-text job e file is = none-some file (subst (λ t. (elim t [ true ↦ unless_read job.order_file job.name | false ↦ None ]) ≡ Some file)
+      (ap reads_file (mode-is job e)) is)
 
   -- before anything is made, nothing is told but that memory was wanted
   early : (r : Refusal) → Refuses (asked words) contents before now r → SaysMade shape n (refusal_ending r) (refusal_line r)
@@ -138,6 +142,7 @@ module _ (words : List (List ℕ)) (contents : Contents) (before now : Told) (sh
   none-due ask bytes m end text (of_graph reads d) = reads-other ask.mode mode.Make reads m refl
   none-due ask bytes m end text (of_assembly assembles d) = not-other ask.mode mode.Assemble m assembles refl
   none-due ask bytes m end text (of_code runs-code d) = not-other ask.mode mode.ExecTl0 m runs-code refl
+  none-due ask bytes m end text (of_image runs-image d) = not-other ask.mode mode.ExecRv32 m runs-image refl
 
   -- and then what is said of the large input
   of-request : (ask : Request) (bytes : List ℕ) → ask.mode ≡ mode.Make → ask.shape ≡ Some shape → ask.count ≡ n → (end : Ending) (text : List ℕ)
@@ -145,6 +150,7 @@ module _ (words : List (List ℕ)) (contents : Contents) (before now : Told) (sh
   of-request ask bytes m s c end text (due d) = absurd (none-due ask bytes m end text d)
   of-request ask bytes m s c end text (ran {level = l} a says) = absurd (level-other ask.mode mode.Make l a.mode m refl)
   of-request ask bytes m s c end text (code_ran a says) = absurd (not-other ask.mode mode.ExecTl0 m a.mode refl)
+  of-request ask bytes m s c end text (image_ran a says) = absurd (not-other ask.mode mode.ExecRv32 m a.mode refl)
   of-request ask bytes m s c end text (made {shape = k} makes-it is says) =
       subst (λ h. SaysMade h n end text) (shape-once k shape (sym is ∙ s)) (subst (λ i. SaysMade k i end text) c says)
   of-request ask bytes m s c end text out = no_graph
@@ -169,7 +175,7 @@ module _ (law : MadeTextsAreAccepted) (borne : RunsAreBorneOut) (right : RunsAre
   spelled = let m = law shape n count in (m.1, m.2)
 
   -- each run is borne out
-  out-at : (level : Level) → (all : Partitions) × IsBorneOut graph all (argument_of shape n ∷ []) usual_limits (made_report shape n graph level)
+  out-at : (level : Level) → (all : Partitions) × IsBorneOut graph all (argument_of shape n ∷ []) usual_limits (made_run shape n graph level).report
   out-at level =
       borne level graph (argument_of shape n ∷ []) [] usual_limits spelled.1 (made-arguments shape n count graph (law shape n count).3) usual-in-range
 
@@ -185,18 +191,19 @@ module _ (law : MadeTextsAreAccepted) (borne : RunsAreBorneOut) (right : RunsAre
   made-right end old new faults faults_new done = record {
     g = graph;
     spelled = record { reads = spelled.0; accepted = spelled.1 };
-    right = λ level. let b = out-at level in right graph b.0 (argument_of shape n ∷ []) usual_limits (made_report shape n graph level) b.1;
-    complete = λ level. let b = out-at level in room graph b.0 (argument_of shape n ∷ []) usual_limits (made_report shape n graph level) b.1;
+    right = λ level. let b = out-at level in right graph b.0 (argument_of shape n ∷ []) usual_limits (made_run shape n graph level).report b.1;
+    complete = λ level. let b = out-at level in room graph b.0 (argument_of shape n ∷ []) usual_limits (made_run shape n graph level).report b.1;
     complete_live = λ level. live level graph (argument_of shape n ∷ []) [] usual_limits
         (record { accepted = spelled.1; arguments = made-arguments shape n count graph (law shape n count).3; ranges = usual-in-range });
     took = took-lines (made_lines shape n graph) (made_ending shape n graph) end old new faults faults_new
-        (not-of-levels NoMemory (λ e. absurd (cc)) (made_report shape n graph) (λ level. not-wanting _ _) levels)
-        (not-of-levels WriteFault (λ e. absurd (cc)) (made_report shape n graph) (λ level. not-broken _ _) levels)
+        (not-of-levels NoMemory refl (made_run shape n graph) levels)
+        (not-of-levels WriteFault refl (made_run shape n graph) levels)
         (done-more old new faults faults_new (SaysMade shape n) (SaysLines (made_lines shape n graph) (made_ending shape n graph)) end of-graph done);
   }
 
 -- a large input that is asked for is right
-pub right-made : MadeTextsAreAccepted → RunsAreBorneOut → RunsAreRight → RoomIsQuiet → LiveRoomIsQuiet → (words : List (List ℕ)) (contents : Contents) (before now : Told)
+pub right-made : MadeTextsAreAccepted → RunsAreBorneOut → RunsAreRight → RoomIsQuiet → LiveRoomIsQuiet → (words : List (List ℕ)) (contents : Contents)
+    (before now : Told)
     (end : Ending) (old new : Option (List ℕ)) (faults faults_new : ℕ) → IsDone (Answer (asked words) contents before now) end old new faults faults_new
     → (shape : Shape) (n : ℕ) → AsksMade (asked words) shape n → IsRightMade shape n end old new
 right-made law borne right room live words contents before now end old new faults faults_new done shape n asks =

@@ -6,7 +6,7 @@ use Rattle.std.specs.Io.KnownBytes.{Appends}
 use Rattle.std.proofs.KnownBytes.{Appends-trans}
 use Rattle.std.proofs.lemmas.List.{append-nil}
 use Rattle.tam_edge.specs.Faults.{CountsFault}
-use Rattle.tam_run.proofs.Fronts.{front-more}
+use Rattle.tam_run.proofs.Prefixes.{prefix-more}
 use Rattle.tam_input.specs.declared.ending.Ending.{Ending}
 use Rattle.tam_input.specs.declared.ending.Ending.TheVariants.{NoMemory}
 use Rattle.tam_input.specs.Refusing.{no_memory_line}
@@ -48,15 +48,16 @@ said-is meant other end text more old new faults faults_new e f s =
     subst (λ m. IsSaid m text end old new faults faults_new) e (subst (λ t. IsSaid other t end old new faults faults_new) f s)
 
 -- what was done behind a text that was taken was done of both
-module _ (old mid new : Option (List ℕ)) (faults faults_mid faults_new : ℕ) (front : List ℕ) (taken : Appends old mid front) (same : faults_mid ≡ faults) where
+module _ (old mid new : Option (List ℕ)) (faults faults_mid faults_new : ℕ) (prefix : List ℕ) (taken : Appends old mid prefix)
+    (same : faults_mid ≡ faults) where
   pub behind-done : (Says More : Ending → List ℕ → Type 0) (end : Ending)
-      → ((meant : Ending) (text : List ℕ) → Says meant text → More meant (front ++ text)) → IsDone Says end mid new faults_mid faults_new
+      → ((meant : Ending) (text : List ℕ) → Says meant text → More meant (prefix ++ text)) → IsDone Says end mid new faults_mid faults_new
       → IsDone More end old new faults faults_new
   behind-done Says More end more d = record {
-    said = λ n. let s = d.said n in (front ++ s.0, more end s.0 s.1, Appends-trans old mid new front s.0 taken s.2);
+    said = λ n. let s = d.said n in (prefix ++ s.0, more end s.0 s.1, Appends-trans old mid new prefix s.0 taken s.2);
     none = λ n. d.none n ∙ same;
     broken = λ e.
         let b = d.broken e in
-        (b.0, front ++ b.1, more b.0 b.1 b.2, front-more old mid new front b.1 [] (front ++ b.1) taken b.3 (ap (λ l. front ++ l) (sym (append-nil b.1))));
+        (b.0, prefix ++ b.1, more b.0 b.1 b.2, prefix-more old mid new prefix b.1 [] (prefix ++ b.1) taken b.3 (ap (λ l. prefix ++ l) (sym (append-nil b.1))));
     fault = λ e. subst (λ f. CountsFault f faults_new) same (d.fault e);
   }

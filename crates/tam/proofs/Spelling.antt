@@ -1,4 +1,4 @@
--- Bytes spell one thing: one graph, one thread code, one image; and where they spell it, it has no fault.
+-- Bytes spell one thing: one graph, one thread code, one image as text or as file; and where they spell it, it has no fault.
 use Rattle.std.proofs.Common.{◌≡◌, ℕ, List, [], ◌∷◌, take, sym, ap, ◌∙◌}
 use Rattle.std.specs.Prelude.{Option, Some, None}
 use Rattle.tam_graph.specs.declared.place.Place.{Place}
@@ -17,10 +17,14 @@ use Rattle.tl0_text.specs.declared.cause.Cause0.{Cause0}
 use Rattle.tl0_text.specs.Reading.{Reads0, first_fault as first_in_text}
 use Rattle.tl0_text.proofs.ProgramsBack.{texts-back}
 use Rattle.rv_inst.specs.Images.{Image}
+use Rattle.rv_image.specs.declared.image_error.ImageCause.{ImageCause}
+use Rattle.rv_image.specs.ImageFiles.{fault_of}
+use Rattle.rv_image.proofs.ImageLemmas.{images-pass, files-differ}
 use Rattle.rv_asm.specs.declared.asm_error.AsmCause.{AsmCause}
 use Rattle.rv_asm.specs.Faults.{asm_faults}
 use Rattle.rv_asm.specs.Reading.{AsmReads}
 use Rattle.rv_asm.proofs.TextsRead.{no_fault_where_reads}
+use Rattle.tam.specs.ImageAnswers.{SpellsImage}
 
 -- bytes read as one graph
 pub reads-once : (bytes : List ℕ) (g h : Graph) → Reads bytes g → Reads bytes h → h ≡ g
@@ -63,4 +67,15 @@ pub no-asm-fault : (bytes : List ℕ) (image : Image) (n : ℕ) (c : AsmCause) �
 no-asm-fault bytes image n c r e = nothing (ap (take 1) (sym (no_fault_where_reads bytes image r)) ∙ e)
   where
     nothing : ◌≡◌ {A = List (ℕ × AsmCause)} [] ((n, c) ∷ []) → ⊥
+    nothing e = cc
+
+-- bytes are the file of one image
+pub image-once : (bytes : List ℕ) (i j : Image) → SpellsImage bytes i → SpellsImage bytes j → j ≡ i
+image-once bytes i j a b = files-differ j i b.in_range a.in_range b.words a.words (sym b.file ∙ a.file)
+
+-- the file of an image has no fault
+pub no-image-fault : (bytes : List ℕ) (i : Image) (n : ℕ) (c : ImageCause) → SpellsImage bytes i → fault_of bytes ≡ Some (n, c) → ⊥
+no-image-fault bytes i n c s e = nothing (sym (ap fault_of s.file ∙ images-pass i s.in_range) ∙ e)
+  where
+    nothing : ◌≡◌ {A = Option (ℕ × ImageCause)} None (Some (n, c)) → ⊥
     nothing e = cc

@@ -1,4 +1,4 @@
--- The lines of texts that are refused, and the names of their faults.
+-- The lines of texts and image files that are refused, and the names of their faults.
 -- The rule in words: docs/FORMATS.md, "Command line".
 use Rattle.std.specs.Prelude.{ℕ, List, ◌++◌, decimal, codes}
 use Rattle.tam_msgs.specs.Runs.{line}
@@ -16,10 +16,16 @@ use Rattle.tl0_text.specs.declared.cause.Cause0.{Cause0}
 use Rattle.tl0_text.specs.declared.cause.Cause0.TheVariants as cause
 use Rattle.rv_asm.specs.declared.asm_error.AsmCause.{AsmCause}
 use Rattle.rv_asm.specs.declared.asm_error.AsmCause.TheVariants as asm
+use Rattle.rv_image.specs.declared.image_error.ImageCause.{ImageCause}
+use Rattle.rv_image.specs.declared.image_error.ImageCause.TheVariants as image
 
 -- the line of a text that is refused at a line of its own, for a cause with this name
 abbrev pub refused_line : ℕ → List ℕ → List ℕ
 refused_line n cause = line (codes "refused line " ++ decimal n ++ codes " " ++ cause)
+
+-- the line of an image file that is refused at a byte, for a cause with this name
+abbrev pub refused_byte_line : ℕ → List ℕ → List ℕ
+refused_byte_line n cause = line (codes "refused byte " ++ decimal n ++ codes " " ++ cause)
 
 -- a limit by its name
 abbrev pub limit_name : Limit → List ℕ
@@ -81,3 +87,12 @@ asm_cause_name asm.TwiceNamed = codes "TwiceNamed"
 asm_cause_name asm.UnknownName = codes "UnknownName"
 asm_cause_name asm.Ended = codes "Ended"
 asm_cause_name asm.TooMany = codes "TooMany"
+
+-- a fault of an image file by its name
+abbrev pub image_cause_name : ImageCause → List ℕ
+image_cause_name image.Magic = codes "Magic"
+image_cause_name image.Version = codes "Version"
+image_cause_name image.Size = codes "Size"
+image_cause_name image.Stride = codes "Stride"
+image_cause_name image.Params = codes "Params"
+image_cause_name image.Results = codes "Results"

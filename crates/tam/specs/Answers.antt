@@ -13,10 +13,12 @@ use Rattle.tam_input.specs.Told.{Told, Contents}
 use Rattle.tam_input.specs.Refusing.{Refuses, no_memory_line, refusal_ending, refusal_line}
 use Rattle.tam_input.specs.Inputs.{Request, IsInput}
 use Rattle.tl0_code.specs.ThreadCode.{Program}
+use Rattle.rv_inst.specs.Images.{Image}
 use Rattle.tam.specs.SaidRuns.{SaysRun}
 use Rattle.tam.specs.MadeRuns.{SaysMade}
 use Rattle.tam.specs.GraphAnswers.{AsksGraph, run_of}
 use Rattle.tam.specs.CodeAnswers.{AsksCode, code_run_of}
+use Rattle.tam.specs.ImageAnswers.{AsksImage, image_run_of}
 use Rattle.tam.specs.Due.{IsDue}
 
 -- by what is asked of these bytes, the ending and the text that are answered
@@ -28,6 +30,9 @@ pub data AnswerTo (ask : Request) (bytes : List ℕ) : Ending → List ℕ → T
       → AnswerTo ask bytes end text
   -- or thread code that is
   code_ran : {p : Program} {end : Ending} {text : List ℕ} → AsksCode ask bytes p → SaysRun (code_run_of ask p) end text → AnswerTo ask bytes end text
+  -- or the file of an image that is
+  image_ran : {image : Image} {end : Ending} {text : List ℕ} → AsksImage ask bytes image → SaysRun (image_run_of ask image) end text
+      → AnswerTo ask bytes end text
   -- a large input is made, and run at each level
   made : {shape : Shape} {end : Ending} {text : List ℕ} → ask.mode ≡ mode.Make → ask.shape ≡ Some shape → SaysMade shape ask.count end text
       → AnswerTo ask bytes end text

@@ -1,7 +1,7 @@
 -- What is due to a text of thread code, and which run of thread code is asked for.
 -- The rule in words: docs/FORMATS.md, "Command line"; docs/THREADS.md, "Runs of threads".
 use Rattle.std.specs.Prelude.{ℕ, ◌+◌, ◌≡◌, ◌≢◌, List, [], ◌∷◌, flat_map, length, take, Some}
-use Rattle.tam_msgs.specs.Runs.{Report}
+use Rattle.tam_run.specs.Accounts.{Account, plain_account}
 use Rattle.tam_words.specs.declared.mode.Mode.TheVariants as mode
 use Rattle.tam_words.specs.declared.usage_cause.UsageCause.TheVariants.{ArgsCount}
 use Rattle.tam_input.specs.declared.ending.Ending.{Ending}
@@ -34,9 +34,9 @@ code_line p n place = 3 + (length (flat_map text_lines (take n p.codes)) + place
 abbrev pub code_fault_line : Program → ℕ × ℕ × BadCause → List ℕ
 code_fault_line p fault = refused_line (code_line p fault.0 fault.1) (code_cause_name fault.2)
 
--- the report of the run of thread code that is asked for
-abbrev pub code_run_of : Request → Program → Report
-code_run_of ask p = thread_told p ask.args ask.order ask.limits
+-- what the run of thread code that is asked for tells
+abbrev pub code_run_of : Request → Program → Account
+code_run_of ask p = plain_account (thread_told p ask.args ask.order ask.limits)
 
 -- a run of the thread code of the bytes is asked for, and each param of `main` has an argument
 pub record AsksCode (ask : Request) (bytes : List ℕ) (p : Program) : Type 0 where

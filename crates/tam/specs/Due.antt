@@ -16,6 +16,7 @@ use Rattle.rv_asm.specs.Reading.{AsmReads}
 use Rattle.tam.specs.AnswerLines.{refused_line, asm_cause_name}
 use Rattle.tam.specs.GraphAnswers.{GraphDue, AsksGraph, reads_graph}
 use Rattle.tam.specs.CodeAnswers.{CodeDue, AsksCode}
+use Rattle.tam.specs.ImageAnswers.{ImageDue, AsksImage}
 
 -- the ending and the text that are due to these bytes as an assembly text
 pub data AssemblyDue (bytes : List ℕ) : Ending → List ℕ → Type 0 where
@@ -29,8 +30,10 @@ pub data IsDue (ask : Request) (bytes : List ℕ) : Ending → List ℕ → Type
   of_graph : {end : Ending} {text : List ℕ} → reads_graph ask.mode ≡ true → GraphDue ask bytes end text → IsDue ask bytes end text
   of_assembly : {end : Ending} {text : List ℕ} → ask.mode ≡ mode.Assemble → AssemblyDue bytes end text → IsDue ask bytes end text
   of_code : {end : Ending} {text : List ℕ} → ask.mode ≡ mode.ExecTl0 → CodeDue ask bytes end text → IsDue ask bytes end text
+  of_image : {end : Ending} {text : List ℕ} → ask.mode ≡ mode.ExecRv32 → ImageDue ask bytes end text → IsDue ask bytes end text
 
 -- or a run is asked for
 pub data HasRun (ask : Request) (bytes : List ℕ) : Type 0 where
   graph_run : {level : Level} {g : Graph} → AsksGraph ask bytes level g → HasRun ask bytes
   code_run : {p : Program} → AsksCode ask bytes p → HasRun ask bytes
+  image_run : {image : Image} → AsksImage ask bytes image → HasRun ask bytes

@@ -3,9 +3,11 @@ pub mod SaidRuns
 pub mod MadeRuns
 pub mod CodeAnswers
 pub mod GraphAnswers
+pub mod ImageAnswers
 pub mod Due
 pub mod Answers
 pub mod Asks
+pub mod Machines
 pub mod RightMade
 pub mod Headline
 pub mod Stopping

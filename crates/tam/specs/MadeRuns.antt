@@ -7,10 +7,11 @@ use Rattle.tam_graph.specs.Accepted.{IsAccepted}
 use Rattle.tam_make.specs.declared.shape.Shape.{Shape}
 use Rattle.tam_make.specs.declared.shape.Shape.TheVariants.{Ladder, Wave}
 use Rattle.tam_make.specs.MadeTexts.{made_text}
-use Rattle.tam_msgs.specs.Runs.{Report, line, joined, result_line, last_lines}
+use Rattle.tam_msgs.specs.Runs.{line, joined, result_line}
 use Rattle.tam_run.specs.declared.level.Level.{Level}
 use Rattle.tam_run.specs.declared.level.Level.TheVariants as level
-use Rattle.tam_run.specs.Levels.{told_at}
+use Rattle.tam_run.specs.Accounts.{Account, instructions_of, closing_lines}
+use Rattle.tam_run.specs.Levels.{account_at}
 use Rattle.tam_words.specs.Names.{shape_name}
 use Rattle.tam_words.specs.Options.{usual_limits}
 use Rattle.tam_input.specs.declared.ending.Ending.{Ending}
@@ -23,21 +24,22 @@ use Rattle.tam.specs.SaidRuns.{ending_of}
 
 -- the levels at which a large input is run, in their order
 abbrev pub levels : List Level
-levels = level.Graph ∷ level.Tl0 ∷ []
+levels = level.Graph ∷ level.Tl0 ∷ level.Rv32 ∷ []
 
 -- a level by its name
 abbrev pub level_name : Level → List ℕ
 level_name level.Graph = codes "graph"
 level_name level.Tl0 = codes "tl0"
+level_name level.Rv32 = codes "rv32"
 
 -- the argument of a large input's `main`
 abbrev pub argument_of : Shape → ℕ → ℕ
 argument_of Ladder n = 0
 argument_of Wave n = n
 
--- the report of the run of a large input's graph at a level: under the empty order, within the usual limits
-abbrev pub made_report : Shape → ℕ → Graph → Level → Report
-made_report shape n g level = told_at level g (argument_of shape n ∷ []) [] usual_limits
+-- what the run of a large input's graph tells at a level: under the empty order, within the usual limits
+abbrev pub made_run : Shape → ℕ → Graph → Level → Account
+made_run shape n g level = account_at level g (argument_of shape n ∷ []) [] usual_limits
 
 -- ---- lines
 
@@ -51,16 +53,16 @@ abbrev pub level_line : Level → List ℕ
 level_line level = line (codes "level " ++ level_name level)
 
 -- the lines of a run
-abbrev pub run_lines : Report → List (List ℕ)
-run_lines r = map result_line r.printed ++ last_lines r
+abbrev pub run_lines : Account → List (List ℕ)
+run_lines a = map result_line a.report.printed ++ closing_lines a.report (instructions_of a.machine)
 
 -- the lines of some levels
-abbrev pub level_lines : (Level → Report) → List Level → List (List ℕ)
-level_lines report ls = flat_map (λ level. level_line level ∷ run_lines (report level)) ls
+abbrev pub level_lines : (Level → Account) → List Level → List (List ℕ)
+level_lines run ls = flat_map (λ level. level_line level ∷ run_lines (run level)) ls
 
 -- all lines
 abbrev pub made_lines : Shape → ℕ → Graph → List (List ℕ)
-made_lines shape n g = head_lines shape n ++ level_lines (made_report shape n g) levels
+made_lines shape n g = head_lines shape n ++ level_lines (made_run shape n g) levels
 
 -- ---- the ending
 
@@ -70,19 +72,19 @@ first_ending [] = Done
 first_ending (end ∷ ends) = elim (code_of end == 0) [ true ↦ first_ending ends | false ↦ end ]
 
 -- how the program ends behind runs at some levels
-abbrev pub levels_ending : (Level → Report) → List Level → Ending
-levels_ending report ls = first_ending (map (λ level. ending_of (report level)) ls)
+abbrev pub levels_ending : (Level → Account) → List Level → Ending
+levels_ending run ls = first_ending (map (λ level. ending_of (run level).report) ls)
 
 -- and behind those of a large input
 abbrev pub made_ending : Shape → ℕ → Graph → Ending
-made_ending shape n g = levels_ending (made_report shape n g) levels
+made_ending shape n g = levels_ending (made_run shape n g) levels
 
 -- ---- what is said
 
 -- the ending and the text that are said of lines: all of them, or that memory was wanted behind the first of them
 pub data SaysLines (lines : List (List ℕ)) (meant : Ending) : Ending → List ℕ → Type 0 where
   all_lines : SaysLines lines meant meant (joined lines)
-  first_lines : (front rest : List (List ℕ)) → lines ≡ front ++ rest → SaysLines lines meant NoMemory (joined front ++ no_memory_line)
+  first_lines : (prefix rest : List (List ℕ)) → lines ≡ prefix ++ rest → SaysLines lines meant NoMemory (joined prefix ++ no_memory_line)
 
 -- the ending and the text that are said of a large input: its lines, whose graph is that of its text, or that memory was wanted
 pub data SaysMade (shape : Shape) (n : ℕ) : Ending → List ℕ → Type 0 where

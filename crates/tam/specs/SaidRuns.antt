@@ -1,8 +1,9 @@
 -- What is said of a run: its text under the ending of its end, or the lines of its first results and that memory was wanted.
 -- The rule in words: docs/FORMATS.md, "The text of a run".
 use Rattle.std.specs.Prelude.{ℕ, ◌≡◌, List, [], ◌∷◌, ◌++◌, flat_map}
-use Rattle.tam_msgs.specs.Runs.{End, Quiet, Double_write, Out_of_range, Frames_full, Cells_full, Budget_spent, Wild, Trap, Report, result_line, text_of}
+use Rattle.tam_msgs.specs.Runs.{End, Quiet, Double_write, Out_of_range, Frames_full, Cells_full, Budget_spent, Wild, Trap, Report, result_line}
 use Rattle.tam_msgs.specs.Runs.{missing_of}
+use Rattle.tam_run.specs.Accounts.{Account, account_text}
 use Rattle.tam_input.specs.declared.ending.Ending.{Ending}
 use Rattle.tam_input.specs.declared.ending.Ending.TheVariants as ending
 use Rattle.tam_input.specs.Refusing.{no_memory_line}
@@ -23,9 +24,9 @@ ending_by (Trap pc cause) ks = ending.Broken
 abbrev pub ending_of : Report → Ending
 ending_of r = ending_by r.how (missing_of r.how r.results r.printed)
 
--- the ending and the text that are said of a run
-pub data SaysRun (r : Report) : Ending → List ℕ → Type 0 where
+-- the ending and the text that are said of a run, by what it tells
+pub data SaysRun (a : Account) : Ending → List ℕ → Type 0 where
   -- all of it
-  whole_run : SaysRun r (ending_of r) (text_of r)
+  whole_run : SaysRun a (ending_of a.report) (account_text a)
   -- or that memory was wanted, behind the lines of its first results
-  run_out : (front rest : List (ℕ × ℕ)) → r.printed ≡ front ++ rest → SaysRun r ending.NoMemory (flat_map result_line front ++ no_memory_line)
+  run_out : (prefix rest : List (ℕ × ℕ)) → a.report.printed ≡ prefix ++ rest → SaysRun a ending.NoMemory (flat_map result_line prefix ++ no_memory_line)

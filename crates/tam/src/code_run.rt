@@ -11,14 +11,14 @@ ghost use Rattle.tam.specs.Answers.{AnswerTo};
 ghost use Rattle.tam.specs.Headline.{IsDone};
 
 use crate::code_line::code_line;
-use crate::outcome::answer_outcome;
+use crate::outcome::answer_exec;
 use crate::refusal::{code_cause_name, code_text_cause_name, refused_line};
 use crate::say::{say, say_made, say_no_memory};
 use std::alloc::{AllocError, Global};
 use tam_edge::Sink;
 use tam_input::Ending;
 use tam_msgs::Order;
-use tam_run::{Exec, run_code};
+use tam_run::run_code;
 use tam_words::Job;
 use tl0_check::{Check0Error, Checked0, check0};
 use tl0_code::{BadCause, Program0};
@@ -117,10 +117,8 @@ fn run_checked<K: Sink>(
     if args.len() != main_params(&code) as usize {
         return say(b"usage ArgsCount\n", Ending::Usage, out);
     }
-    match run_code(alloc, code, args, order, job.limits(), out) {
-        Exec::Run(outcome) => answer_outcome(outcome, out),
-        Exec::Wild => Ending::Broken,
-    }
+    let exec = run_code(alloc, code, args, order, job.limits(), out);
+    answer_exec(exec, out)
 }
 
 // How many params `main` has.

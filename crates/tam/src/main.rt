@@ -1,6 +1,6 @@
 //! Runs a dataflow graph: the program around the top call.
 //!
-//! Over the crates of runs and of thread code, the readers of words and files, the large inputs, and the assembler.
+//! Over the crates of runs, of thread code and of machine code, the readers of words and files, the large inputs, and the assembler.
 //! Read `specs/Headline.antt` first: what the top call makes sure of. Then `src/top.rt`.
 #![tactic(auto)]
 
@@ -10,6 +10,8 @@ mod code_line;
 mod code_run;
 mod graph_run;
 mod graph_text;
+mod image_run;
+mod image_text;
 mod made;
 mod outcome;
 mod refusal;
@@ -48,7 +50,8 @@ fn main(rt: HostRuntime) -> ExitCode {
     };
     let mut files = HostFiles::new(for_files, alloc);
     let mut out = HostSink::new(for_sink);
-    ExitCode::from(tam(alloc, &words, &mut files, &mut out).code)
+    let mut machine = None;
+    ExitCode::from(tam(alloc, &words, &mut files, &mut machine, &mut out).code)
 }
 
 fn exit(ending: Ending) -> ExitCode {

@@ -1,9 +1,12 @@
 // The lines of refusals.
 ghost use Rattle.std.specs.Prelude.{◌≡◌, ◌++◌, IfOk, OnOk, codes};
 ghost use Rattle.std.specs.Fmt.{decimal};
+ghost use Rattle.tam_msgs.specs.Runs.{line};
 ghost use Rattle.tam.specs.AnswerLines.{refused_line, read_cause_name, check_cause_name, asm_cause_name, code_text_cause_name, code_cause_name};
+ghost use Rattle.tam.specs.AnswerLines.{refused_byte_line, image_cause_name};
 
 use rv_asm::AsmCause;
+use rv_image::ImageCause;
 use std::alloc::{AllocError, Global};
 use tam_graph::CheckCause;
 use tam_read::{Limit, ReadCause};
@@ -24,8 +27,22 @@ pub fn push_number(line: &mut Vec<u8>, number: u32) -> Result<(), AllocError>
 pub fn refused_line(alloc: Global, line: u32, cause: &[u8]) -> Result<Vec<u8>, AllocError>
     ensures value { IfOk result (λ text. text.items ≡ refused_line line cause.now) }
 {
-    let mut text = Vec::from_slice(alloc, b"refused line ")?;
-    push_number(&mut text, line)?;
+    refused_at(alloc, b"refused line ", line, cause)
+}
+
+/// The line of an image file that is refused at one of its bytes, for a cause with this name.
+pub fn refused_byte_line(alloc: Global, byte: u32, cause: &[u8]) -> Result<Vec<u8>, AllocError>
+    ensures value { IfOk result (λ text. text.items ≡ refused_byte_line byte cause.now) }
+{
+    refused_at(alloc, b"refused byte ", byte, cause)
+}
+
+// The line of a refusal at a place, for a cause with this name.
+fn refused_at(alloc: Global, what: &[u8], place: u32, cause: &[u8]) -> Result<Vec<u8>, AllocError>
+    ensures value { IfOk result (λ text. text.items ≡ line (what.now ++ decimal place ++ codes " " ++ cause.now)) }
+{
+    let mut text = Vec::from_slice(alloc, what)?;
+    push_number(&mut text, place)?;
     text.extend_from_slice(b" ")?;
     text.extend_from_slice(cause)?;
     text.extend_from_slice(b"\n")?;
@@ -111,5 +128,19 @@ pub fn asm_cause_name(cause: AsmCause) -> &'static [u8]
         AsmCause::UnknownName => b"UnknownName",
         AsmCause::Ended => b"Ended",
         AsmCause::TooMany => b"TooMany",
+    }
+}
+
+/// A fault of an image file by its name.
+pub fn image_cause_name(cause: ImageCause) -> &'static [u8]
+    ensures value { result.now ≡ image_cause_name cause }
+{
+    match cause {
+        ImageCause::Magic => b"Magic",
+        ImageCause::Version => b"Version",
+        ImageCause::Size => b"Size",
+        ImageCause::Stride => b"Stride",
+        ImageCause::Params => b"Params",
+        ImageCause::Results => b"Results",
     }
 }

@@ -8,12 +8,12 @@ use Rattle.tam_input.specs.declared.ending.Ending.TheVariants as ending
 use Rattle.tl0_code.specs.ThreadCode.{Program}
 use Rattle.tl0_code.specs.ThreadRuns.{thread_told}
 use Rattle.tl0_code.specs.CodeRules.{IsChecked}
+use Rattle.tam_run.specs.Accounts.{plain_account}
 use Rattle.tam.specs.SaidRuns.{SaysRun}
 use Rattle.tam.specs.CodeAnswers.{wrong_count}
 use Rattle.tam.specs.Due.{of_code}
 use Rattle.tam.specs.Answers.{AnswerTo, due, code_ran}
 use Rattle.tam.proofs.Saying.{said-done, done-more}
-use Rattle.tam.proofs.Running.{wild-done}
 use Rattle.tam.proofs.code_run.run_checked.Goals as goal
 
 -- a run on the same arguments within the same limits is the same run
@@ -30,30 +30,17 @@ returns-then-args-main_params g c = record {
       c.say.ensures.said;
 }
 
-pub returns-in-Run : goal.returns-in-Run
-returns-in-Run g c = record {
+pub returns : goal.returns
+returns g c = record {
   done = λ bytes reads.
-      let told = thread_told c.args.code c.args-args.result.now c.args.order c.limits.result in
-      let same = same-run c.args.code c.args.job.now.args c.args-args.result.now c.args.order c.args.job.now.limits c.limits.result c.args-args.ensures.value
-      c.limits.ensures.value in
-      done-more _ _ _ _ (SaysRun told) (AnswerTo (request_of c.args.job.now c.args.order) bytes) c.answer_outcome.result (λ meant text says. code_ran (record {
+      let told = plain_account (thread_told c.args.code c.args-args.result.now c.args.order c.limits.result) in
+      let same = ap plain_account (same-run c.args.code c.args.job.now.args c.args-args.result.now c.args.order c.args.job.now.limits c.limits.result
+      c.args-args.ensures.value c.limits.ensures.value) in
+      done-more _ _ _ _ (SaysRun told) (AnswerTo (request_of c.args.job.now c.args.order) bytes) c.answer_exec.result (λ meant text says. code_ran (record {
         mode = c.requires.mode;
         spelled = record { reads = reads; checked = subst IsChecked c.code.view_is c.code.invariant };
         one_each = ap length (sym c.args-args.ensures.value) ∙ c.if-args-main_params.false ∙ c.main_params.ensures.value;
-      }) (subst (λ r. SaysRun r meant text) same says))
-      (c.answer_outcome.ensures.done told (g.K.Sink.taken c.args.out.now) (g.K.Sink.faults c.args.out.now) c.in-Run.ensures.text c.in-Run.ensures.counted);
-}
-
-pub returns-in-Wild : goal.returns-in-Wild
-returns-in-Wild g c = record {
-  done = λ bytes reads.
-      let told = thread_told c.args.code c.args-args.result.now c.args.order c.limits.result in
-      let same = same-run c.args.code c.args.job.now.args c.args-args.result.now c.args.order c.args.job.now.limits c.limits.result c.args-args.ensures.value
-      c.limits.ensures.value in
-      let text = c.in-Wild.ensures.text in
-      done-more _ _ _ _ (SaysRun told) (AnswerTo (request_of c.args.job.now c.args.order) bytes) ending.Broken (λ meant text says. code_ran (record {
-        mode = c.requires.mode;
-        spelled = record { reads = reads; checked = subst IsChecked c.code.view_is c.code.invariant };
-        one_each = ap length (sym c.args-args.ensures.value) ∙ c.if-args-main_params.false ∙ c.main_params.ensures.value;
-      }) (subst (λ r. SaysRun r meant text) same says)) (wild-done told _ _ _ _ text.0 text.1 c.in-Wild.ensures.counted);
+      }) (subst (λ a. SaysRun a meant text) same says))
+      (c.answer_exec.ensures.done told (g.K.Sink.taken c.args.out.now) (g.K.Sink.faults c.args.out.now) c.run_code-exec.ensures.text
+      c.run_code-exec.ensures.counted);
 }

@@ -1,0 +1,5 @@
+mod MemoryWalks
+mod Blocks
+mod Sharing
+mod CellLemmas
+mod ListLemmas

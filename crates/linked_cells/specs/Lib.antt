@@ -1,0 +1,4 @@
+pub mod Ownership
+pub mod Addresses
+pub mod Cells
+pub mod Lists

@@ -148,10 +148,10 @@ line-cut-again name [] n h =
     ∙ ap (λ (ws : List (List ℕ)). ws ++ []) (ended-words name n)
 line-cut-again name (t ∷ ts) n h =
     let p = all-parts is_word t ts h in
-    let front : all_of is_inner (name ++ 32 ∷ t) ≡ true =
+    let prefix : all_of is_inner (name ++ 32 ∷ t) ≡ true =
     all-both is_inner name (32 ∷ t) (word-inner name n) (all-more is_inner 32 t refl (word-inner t p.0)) in
     ap (λ l. tokens_in (slice_split is_comma l)) (line-kept name (t ∷ ts) n h ∙ sym (append_assoc name (32 ∷ t) (further_line ts)))
-    ∙ ap tokens_in (line-cut (name ++ 32 ∷ t) ts front p.1) ∙ pieces-cut name t ts n h
+    ∙ ap tokens_in (line-cut (name ++ 32 ∷ t) ts prefix p.1) ∙ pieces-cut name t ts n h
 
 -- what stands behind an operand ends the line
 further-first : (ts : List (List ℕ)) (rest : List ℕ) → all_of is_word ts ≡ true → lines_of (further_line ts ++ rest) ≡ further_line ts ∷ lines_of rest

@@ -16,7 +16,7 @@ use Rattle.rv_inst.specs.Fields.{IsSigned}
 use Rattle.rv_asm.specs.declared.asm_error.AsmCause.{AsmCause}
 use Rattle.rv_asm.specs.declared.asm_error.AsmCause.TheVariants.{BadLine, BadNumber}
 use Rattle.rv_asm.specs.AsmText.{register}
-use Rattle.rv_asm.specs.Tokens.{cut_at, onto_front}
+use Rattle.rv_asm.specs.Tokens.{cut_at, onto_prefix}
 use Rattle.rv_asm.specs.Statements.{then_read, where_word, is_negative, signed_of, is_signed, is_offset, immediate_of, number_below, register_of}
 use Rattle.rv_asm.specs.Statements.{is_text, number_of, before_last, address_by, address_of}
 use Rattle.rv_asm.proofs.Rows.{way_true}
@@ -138,7 +138,7 @@ ended bs o e = ap (λ (q : Option (List ℕ × List ℕ)). elim q [ None ↦ Non
 register_before : (r : ℕ) → r < 32 → before_last 41 (register r ++ codes ")") ≡ Some (register r)
 register_before r lt =
     ended (register r) (cut_at 41 (register r ++ codes ")"))
-    (ap (option_map (onto_front 120)) (cut-plain 41 (decimal r) [] (omega arith) (plain-decimal r (omega arith))))
+    (ap (option_map (onto_prefix 120)) (cut-plain 41 (decimal r) [] (omega arith) (plain-decimal r (omega arith))))
 
 -- by the cut at the opening bracket
 by_cut : (o : Option (List ℕ × List ℕ)) (number rest : List ℕ) → o ≡ Some (number, rest)

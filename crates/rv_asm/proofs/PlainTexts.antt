@@ -13,7 +13,7 @@ use Rattle.tam_word.specs.Words.{signed_text}
 use Rattle.tam_word.proofs.Tests.{self-eq}
 use Rattle.tam_text.specs.Lines.{is_some_of}
 use Rattle.tam_text.specs.Names.{is_letter, is_name}
-use Rattle.rv_asm.specs.Tokens.{cut_at, onto_front}
+use Rattle.rv_asm.specs.Tokens.{cut_at, onto_prefix}
 use Rattle.rv_asm.specs.Statements.{is_sign, is_text}
 use Rattle.rv_asm.proofs.Rows.{way_true, way_false}
 
@@ -96,8 +96,8 @@ plain-no_name (b ∷ bs) h = and_left _ _ (no_letter b h.0)
 
 -- a bracket behind the text cuts it off
 pub cut-plain : (c : ℕ) (bs rest : List ℕ) → c < 45 → IsPlain bs → cut_at c (bs ++ c ∷ rest) ≡ Some (bs, rest)
-cut-plain c [] rest l h = way_true (eqb c c) (Some ([], rest)) (option_map (onto_front c) (cut_at c rest)) (self-eq c)
+cut-plain c [] rest l h = way_true (eqb c c) (Some ([], rest)) (option_map (onto_prefix c) (cut_at c rest)) (self-eq c)
 cut-plain c (b ∷ bs) rest l h =
     let low : 45 ≤ b = h.0.0 in
-    way_false (eqb b c) (Some ([], bs ++ c ∷ rest)) (option_map (onto_front b) (cut_at c (bs ++ c ∷ rest))) (ne_eqb b c (λ e. omega (arith, e)))
-    ∙ ap (option_map (onto_front b)) (cut-plain c bs rest l h.1)
+    way_false (eqb b c) (Some ([], bs ++ c ∷ rest)) (option_map (onto_prefix b) (cut_at c (bs ++ c ∷ rest))) (ne_eqb b c (λ e. omega (arith, e)))
+    ∙ ap (option_map (onto_prefix b)) (cut-plain c bs rest l h.1)

@@ -157,7 +157,7 @@ words-length (w ∷ ws) h =
 head-length : (word : List ℕ) (n : ℕ) → length word ≤ 9 → n < 2 ^ 32 → length (head_line word n) ≤ 20
 head-length word n h l =
     let number = number-short n l in
-    let front = length-append word (decimal n) in
+    let prefix = length-append word (decimal n) in
     let whole = length-append (word ++ decimal n) (codes "\n") in
     omega arith
 

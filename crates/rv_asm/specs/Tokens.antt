@@ -31,10 +31,10 @@ abbrev pub token_lines : List ℕ → List (List (List ℕ))
 token_lines text = filter is_some_of (map tokens_of (lines_of text))
 
 -- a byte before the front of a piece
-abbrev pub onto_front : ℕ → List ℕ × List ℕ → List ℕ × List ℕ
-onto_front b p = (b ∷ p.0, p.1)
+abbrev pub onto_prefix : ℕ → List ℕ × List ℕ → List ℕ × List ℕ
+onto_prefix b p = (b ∷ p.0, p.1)
 
 -- what stands before the first such byte, and what stands behind it
 abbrev pub cut_at : ℕ → List ℕ → Option (List ℕ × List ℕ)
 cut_at c [] = None
-cut_at c (b ∷ bs) = elim (b == c) [ true ↦ Some ([], bs) | false ↦ option_map (onto_front b) (cut_at c bs) ]
+cut_at c (b ∷ bs) = elim (b == c) [ true ↦ Some ([], bs) | false ↦ option_map (onto_prefix b) (cut_at c bs) ]

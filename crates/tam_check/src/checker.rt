@@ -117,7 +117,8 @@ fn first_at(
 ) -> Option<CheckCause>
     requires code { tables.now.code.now ≡ code_of graph.now.graph.now n }
     requires in_range { x < length tables.now.code.now.nodes }
-    requires earlier { IsTable tables.now.code.now x (8 * (length tables.now.code.now.nodes + length tables.now.code.now.owners)) earlier.now.rows.items earlier.now.seen.items }
+    requires earlier { IsTable tables.now.code.now x (8 * (length tables.now.code.now.nodes + length tables.now.code.now.owners))
+        earlier.now.rows.items earlier.now.seen.items }
     requires cycles { AreCycles tables.now.code.now cycles.now }
     ensures value { option_to_list result ≡ take 1 (faults_at graph.now.graph.now n x) }
 {

@@ -72,7 +72,8 @@ fn params_agree(graph: &GraphTables<'_>, callee: u32, place: u32, depth: u8) -> 
 }
 
 fn results_agree(graph: &GraphTables<'_>, callee: u32, place: u32, depth: u8) -> bool
-    ensures value { result ≡ all_of (λ y. gives_depth (code_of graph.now.graph.now callee) place depth (kind_at (code_of graph.now.graph.now callee) y)) (node_numbers (code_of graph.now.graph.now callee)) }
+    ensures value { result ≡ all_of (λ y. gives_depth (code_of graph.now.graph.now callee) place depth
+        (kind_at (code_of graph.now.graph.now callee) y)) (node_numbers (code_of graph.now.graph.now callee)) }
 {
     callee >= graph.graph.codes() || graph.border(callee).results_agree(place, depth)
 }
@@ -96,7 +97,8 @@ fn branch_agrees(tables: &CodeTables<'_>, place: u32, depth: u8, block: u32) -> 
 
 // Whether the merge of this place, of the cond that opens the node's block, has this depth.
 fn merges_agree(tables: &CodeTables<'_>, x: u32, place: u32, depth: u8) -> bool
-    ensures value { result ≡ all_of (λ d. all_depths tables.now.code.now (is_merge d place) depth) (owner_of tables.now.code.now (block_at tables.now.code.now x)) }
+    ensures value { result ≡ all_of (λ d. all_depths tables.now.code.now (is_merge d place) depth)
+        (owner_of tables.now.code.now (block_at tables.now.code.now x)) }
 {
     let code = tables.code;
     match owner_of(code, block_at(code, x)) {

@@ -52,7 +52,8 @@ fn call_lacks_at(tables: &CodeTables<'_>, call: u32, callee: &Border<'_>, place:
 
 // Whether a branch of the cond lacks a place for a switch or a merge.
 fn branches_lack(tables: &CodeTables<'_>, cond: u32, yes: u32, no: u32) -> bool
-    ensures value { result ≡ any_of (λ z. lacks_in_branches tables.now.code.now cond yes no (kind_at tables.now.code.now z)) (node_numbers tables.now.code.now) }
+    ensures value { result ≡ any_of (λ z. lacks_in_branches tables.now.code.now cond yes no (kind_at tables.now.code.now z))
+        (node_numbers tables.now.code.now) }
 {
     for place in 0..PLACES {
         if branches_lack_at(tables, cond, yes, no, place) {

@@ -62,7 +62,8 @@ module _ (c : Code) (a : ActivationState) (y v : ℕ) (none : its_word a y ≡ N
       omega (
         arith,
         count-false (node_numbers c),
-        count-sums (λ x. newly (may_fire c (with_word y v a) x) (may_fire c a x)) (unfed c (with_word y v a)) (unfed c a) (λ (x : ℕ). false) each (node_numbers c),
+        count-sums (λ x. newly (may_fire c (with_word y v a) x) (may_fire c a x)) (unfed c (with_word y v a)) (unfed c a) (λ (x : ℕ). false) each
+            (node_numbers c),
       )
     where
       each : (x : ℕ) → as_one (newly (may_fire c (with_word y v a) x) (may_fire c a x)) + as_one (unfed c (with_word y v a) x) ≡ as_one (unfed c a x) + 0
@@ -181,7 +182,8 @@ module _ (c : Code) (a : ActivationState) (b : ℕ) (out : is_in a b ≡ false) 
         firers-count c b,
         count-sums (λ x. newly (may_fire c (with_block b a) x) (may_fire c a x)) (unfed c (with_block b a)) (unfed c a)
             (λ x. (block_at c x == b) && fires (kind_at c x))
-            (λ x. block-parts (fires (kind_at c x)) (is_fed c a x) (is_in a (block_at c x)) (is_in (with_block b a) (block_at c x)) (block_at c x == b) (here x) (others x))
+            (λ x. block-parts (fires (kind_at c x)) (is_fed c a x) (is_in a (block_at c x)) (is_in (with_block b a) (block_at c x))
+            (block_at c x == b) (here x) (others x))
             (node_numbers c),
       )
 
@@ -195,7 +197,8 @@ module _ (c : Code) (a : ActivationState) (b : ℕ) (out : is_in a b ≡ false) 
         inlets-count c b (λ x. not (is_some (its_word a x))),
         count-sums (empty c (with_block b a)) (λ (x : ℕ). false) (empty c a)
             (λ x. ((block_at c x == b) && is_inlet (kind_at c x)) && not (is_some (its_word a x)))
-            (λ x. inlet-parts (is_inlet (kind_at c x)) (is_some (its_word a x)) (is_in a (block_at c x)) (is_in (with_block b a) (block_at c x)) (block_at c x == b)
+            (λ x. inlet-parts (is_inlet (kind_at c x)) (is_some (its_word a x)) (is_in a (block_at c x)) (is_in (with_block b a) (block_at c x))
+            (block_at c x == b)
             (here x) (others x)) (node_numbers c),
       )
 

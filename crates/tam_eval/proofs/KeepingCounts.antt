@@ -1,5 +1,6 @@
 -- What an event changes of the vertices that are left is what the evaluator changes of its counts.
-use Rattle.std.proofs.Common.{◌≡◌, ℕ, zero, suc, ◌+◌, ◌-◌, ◌*◌, ◌<◌, ◌≤◌, Bool, true, false, not, ◌==◌, ◌&&◌, List, [], ◌∷◌, ◌++◌, length, nat_lt, refl, sym, subst, ap}
+use Rattle.std.proofs.Common.{◌≡◌, ℕ, zero, suc, ◌+◌, ◌-◌, ◌*◌, ◌<◌, ◌≤◌, Bool, true, false, not, ◌==◌, ◌&&◌, List, [], ◌∷◌, ◌++◌, length, nat_lt}
+use Rattle.std.proofs.Common.{refl, sym, subst, ap}
 use Rattle.std.proofs.Common.{◌∙◌, arith, tests}
 use Rattle.std.specs.Prelude.{cond, count_by, is_some, slice_set, slice_index_or}
 use Rattle.std.proofs.lemmas.List.Sums.{count_by-le-length}
@@ -109,7 +110,8 @@ module _ (g : Graph) (s t : EvalState) (i y v : ℕ) (is : t ≡ effected g s (c
 
     module _ (yes : is_awaited g s.world i y ≡ true) where
       -- one that is awaited takes one away
-      one-less : (j : ℕ) → vertices_left g (got s.world i y v) (s.ready ++ joins g s.world (got s.world i y v)) j + as_one (i == j) ≡ vertices_left g s.world s.ready j
+      one-less : (j : ℕ) → vertices_left g (got s.world i y v) (s.ready ++ joins g s.world (got s.world i y v)) j + as_one (i == j) ≡ vertices_left g
+          s.world s.ready j
       one-less j = omega (arith, left-got g s.world i y v s.ready none j, ap (λ b. as_one ((i == j) && b)) yes ∙ always (i == j))
         where
           always : (b : Bool) → as_one (b && true) ≡ as_one b

@@ -145,7 +145,11 @@ module _ (g : Graph) (s : GraphState) (i : ℕ) where
           go false p = rw (is_node_done, p) refl
           go true p = rw (is_node_done, p) (vertices-same x (kind_at (its_code g s.world i) x)
               ∙ parts-done (kind_at (its_code g s.world i) x) (has_fired g s i x) (has_word s.world i x) (
-                λ f. rw (has_fired, and-not (fires (kind_at (its_code g s.world i) x)) (is_enabled g s.world i x) (rw (is_unfed, p) at unfed) f, not-ready x) refl,
+                λ f. rw (
+                  has_fired,
+                  and-not (fires (kind_at (its_code g s.world i) x)) (is_enabled g s.world i x) (rw (is_unfed, p) at unfed) f,
+                  not-ready x,
+                ) refl,
                 λ l. and-not (is_inlet (kind_at (its_code g s.world i) x)) (has_word s.world i x) (rw (is_empty_inlet, p) at full) l,
               ))
 
@@ -228,4 +232,8 @@ live-counted g s left counts one_each may =
 
 -- no more are live than have begun
 pub live-most : (g : Graph) (s : GraphState) → live_activations g s ≤ length s.world.activations
-live-most g s = omega (arith, count_by-le-length (λ i. not (is_given_back g s i)) (below (length s.world.activations)), length-below (length s.world.activations))
+live-most g s = omega (
+  arith,
+  count_by-le-length (λ i. not (is_given_back g s i)) (below (length s.world.activations)),
+  length-below (length s.world.activations),
+)

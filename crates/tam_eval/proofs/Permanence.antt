@@ -145,7 +145,8 @@ module _ (g : Graph) (limits : Limits) (s t : GraphState) (may_s : MayFireIn g s
 
 module _ (g : Graph) (limits : Limits) (s : GraphState) (may : MayFireIn g s) where
   -- taken from the ready list, and its effect made
-  fires-lasts : (rest : List Item) (ready : List (ℕ × ℕ)) → s.ready ≡ ready → (t : GraphState) → fired_first g (counted s rest) ready ≡ Next t → Lasts g limits s t
+  fires-lasts : (rest : List Item) (ready : List (ℕ × ℕ)) → s.ready ≡ ready → (t : GraphState) → fired_first g (counted s rest) ready ≡ Next t
+      → Lasts g limits s t
   fires-lasts rest [] is t e = absurd (no_more e)
     where
       no_more : {a b : GraphState} {h : End} → Ended h a ≡ Next b → ⊥
@@ -198,7 +199,8 @@ module _ (g : Graph) (limits : Limits) (s : GraphState) (may : MayFireIn g s) (r
   taken = record (counted s rest) { pending = pending }
 
   -- where arrays alone change
-  arrays-last : (w : World) → w.activations ≡ s.world.activations → (ms : List Message) → Lasts g limits s (after_effect g taken (record { world = w; sends = ms }))
+  arrays-last : (w : World) → w.activations ≡ s.world.activations → (ms : List Message)
+      → Lasts g limits s (after_effect g taken (record { world = w; sends = ms }))
   arrays-last w same ms = lasts-same g limits s (after_effect g taken (record { world = w; sends = ms })) may
       (ready-may g s.world w s.ready (λ j y h. ap (λ (as_before : List ActivationState). is_enabled g (record w { activations = as_before }) j y) same ∙ h) may)
       (ap (λ (all : List ActivationState). length all) same)
@@ -264,7 +266,8 @@ module _ (g : Graph) (limits : Limits) (s : GraphState) (may : MayFireIn g s) (r
   access-lasts t a i v r NoArray e = absurd (goes-no_end e)
 
   -- any message that isn't refused
-  delivery-lasts : (t : GraphState) (m : Message) → refusal g limits (counted s rest) m ≡ [] → after_delivery g taken (delivered s.world m) ≡ Next t → Lasts g limits s t
+  delivery-lasts : (t : GraphState) (m : Message) → refusal g limits (counted s rest) m ≡ [] → after_delivery g taken (delivered s.world m) ≡ Next t
+      → Lasts g limits s t
   delivery-lasts t (Carry f x v) room e = go (f == outside) refl
     where
       go : (b : Bool) → (f == outside) ≡ b → Lasts g limits s t
@@ -281,7 +284,8 @@ module _ (g : Graph) (limits : Limits) (s : GraphState) (may : MayFireIn g s) (r
           some : {h : End} → h ∷ [] ≡ [] → ⊥
           some q = cc
   delivery-lasts t (Make n f x) room e = subst (Lasts g limits s) (goes-one e)
-      (arrays-last (record s.world { arrays = with_array s.world.arrays n; makers = s.world.makers ++ (f, x) ∷ [] }) refl (Carry f x (length s.world.arrays) ∷ []))
+      (arrays-last (record s.world { arrays = with_array s.world.arrays n; makers = s.world.makers ++ (f, x) ∷ [] }) refl
+      (Carry f x (length s.world.arrays) ∷ []))
   delivery-lasts t (Ask_cell a i f x k) room e = access-lasts t k i 0 (f, x) (fetched_from s.world.arrays a i (f, x)) e
   delivery-lasts t (Put_cell a i v k) room e = access-lasts t k i v (0, 0) (stored_into s.world.arrays a i v k) e
 
@@ -332,7 +336,8 @@ lasts-still : (g : Graph) (limits : Limits) (s : GraphState) → MayFireIn g s �
 lasts-still g limits s may = record { may = may; longer = omega arith; none = λ j l h. h; few = λ h. h }
 
 -- over any number of events
-pub events-last : (g : Graph) (limits : Limits) (n : ℕ) (s t : GraphState) → MayFireIn g s → after_events (graph_step g limits) n s ≡ Next t → Lasts g limits s t
+pub events-last : (g : Graph) (limits : Limits) (n : ℕ) (s t : GraphState) → MayFireIn g s → after_events (graph_step g limits) n s ≡ Next t
+    → Lasts g limits s t
 events-last g limits zero s t may e = subst (Lasts g limits s) (goes-one e) (lasts-still g limits s may)
 events-last g limits (suc n) s t may e = go (graph_step g limits s) refl e (λ d m q. events-last g limits n d t m q)
   where

@@ -15,7 +15,8 @@ use Rattle.tam_eval.specs.GraphRuns.{is_enabled, joins, joins_at}
 use Rattle.tam_eval.specs.Waiting.{is_awaited, vertices_left}
 use Rattle.tam_eval.proofs.Counting.{as_one, count-none, count-alike, count-append, count-pairs_past, count-pairs_below}
 use Rattle.tam_eval.proofs.Activations.{may_fire, newly, newly-same, newly-all}
-use Rattle.tam_eval.proofs.Accessors.{no_word, IsLive, changed-activation, other-activation, changed-cases, nothing-changed, activation-begun, activation-begun_other}
+use Rattle.tam_eval.proofs.Accessors.{no_word, IsLive, changed-activation, other-activation, changed-cases, nothing-changed, activation-begun}
+use Rattle.tam_eval.proofs.Accessors.{activation-begun_other}
 use Rattle.tam_eval.proofs.Accessors.{activation-past}
 use Rattle.tam_eval.proofs.Enabled.{enabled-past}
 use Rattle.tam_eval.proofs.ActivationLeft.{unfed, empty, awaited, unfed-word, empty-word, unfed-again, empty-again, unfed-block, empty-block}
@@ -31,7 +32,8 @@ new_ones g w v j = count_by (λ x. newly (is_enabled g v j x) (is_enabled g w j 
 
 -- those that an activation has left and that aren't ready
 abbrev pub others_left : Graph → ActivationState → ℕ
-others_left g a = count_by (unfed (code_of g a.code) a) (node_numbers (code_of g a.code)) + count_by (empty (code_of g a.code) a) (node_numbers (code_of g a.code))
+others_left g a = count_by (unfed (code_of g a.code) a) (node_numbers (code_of g a.code)) + count_by (empty (code_of g a.code) a)
+    (node_numbers (code_of g a.code))
 
 -- ---- those that join
 
@@ -133,7 +135,14 @@ module _ (g : Graph) (w : World) (i y u : ℕ) where
             rest = ap (others_left g) this
 
             here : vertices_left g (got w i y u) (ready ++ joins g w (got w i y u)) i + as_one (is_awaited g w i y) ≡ vertices_left g w ready i
-            here = omega (arith, left-joined g w (got w i y u) i ready, news, rest, unfed-word c a y u (no_word w i y none), empty-word c a y u (no_word w i y none))
+            here = omega (
+              arith,
+              left-joined g w (got w i y u) i ready,
+              news,
+              rest,
+              unfed-word c a y u (no_word w i y none),
+              empty-word c a y u (no_word w i y none),
+            )
 
     -- one word more changes nothing
     pub left-again : has_word w i y ≡ true → (j : ℕ) → vertices_left g (got w i y u) ready j ≡ vertices_left g w ready j

@@ -13,40 +13,40 @@ use Rattle.tam_flow.proofs.Acyclic.{IsAcyclic, shorter, one-waits}
 module _ (es : Edges) (class : List ℕ) where
   -- behind those in front each place stands behind those of the class that have an edge to it
   abbrev pub IsOrdered : List ℕ → List ℕ → Type 0
-  IsOrdered front [] = Unit {0}
-  IsOrdered front (y ∷ ys) = ((d : ℕ) → In d class → is_edge es d y ≡ true → In d front) × IsOrdered (y ∷ front) ys
+  IsOrdered prefix [] = Unit {0}
+  IsOrdered prefix (y ∷ ys) = ((d : ℕ) → In d class → is_edge es d y ≡ true → In d prefix) × IsOrdered (y ∷ prefix) ys
 
   module _ (acyclic : IsAcyclic es) where
     -- what is taken in turn stands so, where each place of the class was taken or is left
-    taken-ordered : (n : ℕ) (front left : List ℕ) → length left ≤ n → ((d : ℕ) → In d class → In d front ⊎ In d left)
-        → IsOrdered front (taken_first n es left)
-    taken-ordered zero front [] l h = tt
-    taken-ordered zero front (x ∷ xs) l h = absurd (omega arith)
-    taken-ordered (suc n) front left l h = go (first_of (waits_for_none es left) left) refl (λ f m. taken-ordered n f m)
+    taken-ordered : (n : ℕ) (prefix left : List ℕ) → length left ≤ n → ((d : ℕ) → In d class → In d prefix ⊎ In d left)
+        → IsOrdered prefix (taken_first n es left)
+    taken-ordered zero prefix [] l h = tt
+    taken-ordered zero prefix (x ∷ xs) l h = absurd (omega arith)
+    taken-ordered (suc n) prefix left l h = go (first_of (waits_for_none es left) left) refl (λ f m. taken-ordered n f m)
       where
-        none-left : (m : List ℕ) → first_of (waits_for_none es m) m ≡ [] → IsOrdered front m
+        none-left : (m : List ℕ) → first_of (waits_for_none es m) m ≡ [] → IsOrdered prefix m
         none-left [] e = tt
         none-left (x ∷ xs) e = absurd (one-waits es acyclic x xs e)
 
         go : (f : List ℕ) → first_of (waits_for_none es left) left ≡ f
             → ((f m : List ℕ) → length m ≤ n → ((d : ℕ) → In d class → In d f ⊎ In d m) → IsOrdered f (taken_first n es m))
-            → IsOrdered front (taken_first (suc n) es left)
+            → IsOrdered prefix (taken_first (suc n) es left)
         go [] e ih = rw (taken_first, e) (none-left left e)
         go (x ∷ xs) e ih =
             let less = shorter x left (in-has left x first.0) in
-            rw (taken_first, e) (behind, ih (x ∷ front) (filter (λ y. not (y == x)) left) (omega (arith, less, l)) later)
+            rw (taken_first, e) (behind, ih (x ∷ prefix) (filter (λ y. not (y == x)) left) (omega (arith, less, l)) later)
           where
             first : In x left × (waits_for_none es left x ≡ true)
             first = one-first (waits_for_none es left) left x xs e
 
-            behind : (d : ℕ) → In d class → is_edge es d x ≡ true → In d front
+            behind : (d : ℕ) → In d class → is_edge es d x ≡ true → In d prefix
             behind d m k = ⊎_elim (λ a. a) (λ a. absurd (not-both _ (in-any (λ (p : ℕ × ℕ). (p.1 == x) && has left p.0) es (d, x) (is_edge-in es d x k)
                 (true-both (x == x) (has left d) (self-eq x) (in-has left d a))) first.1)) (h d m)
 
-            later : (d : ℕ) → In d class → In d (x ∷ front) ⊎ In d (filter (λ y. not (y == x)) left)
+            later : (d : ℕ) → In d class → In d (x ∷ prefix) ⊎ In d (filter (λ y. not (y == x)) left)
             later d m = ⊎_elim (λ a. inl (inr a)) (λ a. still (d == x) refl a) (h d m)
               where
-                still : (b : Bool) → (d == x) ≡ b → In d left → In d (x ∷ front) ⊎ In d (filter (λ y. not (y == x)) left)
+                still : (b : Bool) → (d == x) ≡ b → In d left → In d (x ∷ prefix) ⊎ In d (filter (λ y. not (y == x)) left)
                 still true p a = inl (inl (sym (number-eq d x p)))
                 still false p a = inr (filter-in (λ y. not (y == x)) d left a (ap not p))
 

@@ -37,9 +37,9 @@ any-below test (suc n) y l h = go (y == n) refl (any-below test n y)
         step true e i = rw (any_of, e) refl
         step false e i = rw (any_of, e) i
 
-    in_front : (xs : List ℕ) (m : ℕ) → any_of test xs ≡ true → any_of test (xs ++ m ∷ []) ≡ true
-    in_front [] m k = absurd (true≢false (sym k))
-    in_front (x ∷ xs) m k = step (test x) refl (in_front xs m)
+    in_prefix : (xs : List ℕ) (m : ℕ) → any_of test xs ≡ true → any_of test (xs ++ m ∷ []) ≡ true
+    in_prefix [] m k = absurd (true≢false (sym k))
+    in_prefix (x ∷ xs) m k = step (test x) refl (in_prefix xs m)
       where
         step : (b : Bool) → test x ≡ b → (any_of test xs ≡ true → any_of test (xs ++ m ∷ []) ≡ true) → any_of test (x ∷ (xs ++ m ∷ [])) ≡ true
         step true e i = rw (any_of, e) refl
@@ -47,7 +47,7 @@ any-below test (suc n) y l h = go (y == n) refl (any-below test n y)
 
     go : (b : Bool) → (y == n) ≡ b → (y < n → test y ≡ true → any_of test (below n) ≡ true) → any_of test (below (suc n)) ≡ true
     go true e ih = at_end (below n) n (subst (λ z. test z ≡ true) (number-eq y n e) h)
-    go false e ih = let less : y < n = grind (arith, tests) in in_front (below n) n (ih less h)
+    go false e ih = let less : y < n = grind (arith, tests) in in_prefix (below n) n (ih less h)
 
 -- the first that passes is the only one that passes
 first-is : (test : ℕ → Bool) (xs : List ℕ) (x : ℕ) → has xs x ≡ true → test x ≡ true → AllByRecursion (λ y. test y ≡ true → y ≡ x) xs

@@ -33,7 +33,13 @@ impl Model for FrameStore {
 
     ghost Value = { StoredFrames };
 
-    ghost view = { λ s. record { table = numbered (shown s.lives.items s.frames) (reverse s.free.items); count = s.count; slots = s.slots; threads = s.threads } };
+    ghost view = { λ s. record {
+      table = numbered (shown s.lives.items s.frames) (reverse s.free.items);
+      count = s.count;
+      slots = s.slots;
+      threads =
+          s.threads;
+    } };
 
     ghost invariant = { λ s. IsStored (record {
       rows = s.frames;

@@ -127,10 +127,10 @@ nodes_within c d x m r e out =
     let all : node_numbers c ≡ rising 0 x ++ (rising x m ++ rising (x + m) r) =
     below-rising (length c.nodes) ∙ ap (rising 0) e ∙ rising-split 0 x (m + r) ∙ ap (λ k. rising 0 x ++ rising k (m + r)) zero_x
     ∙ ap (λ xs. rising 0 x ++ xs) (rising-split x m r) in
-    let front : filter test (rising 0 x) ≡ [] = none_pass test 0 x (λ z lo hi. ne_eqb (block_at c z) d (out z (inl (omega arith)))) in
+    let prefix : filter test (rising 0 x) ≡ [] = none_pass test 0 x (λ z lo hi. ne_eqb (block_at c z) d (out z (inl (omega arith)))) in
     let back : filter test (rising (x + m) r) ≡ [] = none_pass test (x + m) r (λ z lo hi. ne_eqb (block_at c z) d (out z (inr lo))) in
     ap (filter test) all ∙ filter-split test (rising 0 x) (rising x m ++ rising (x + m) r)
-    ∙ ap (λ xs. xs ++ filter test (rising x m ++ rising (x + m) r)) front
+    ∙ ap (λ xs. xs ++ filter test (rising x m ++ rising (x + m) r)) prefix
     ∙ filter-split test (rising x m) (rising (x + m) r) ∙ ap (λ xs. filter test (rising x m) ++ xs) back ∙ append-nil (filter test (rising x m))
 
 -- ---- the visits

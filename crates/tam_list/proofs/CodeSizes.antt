@@ -1,5 +1,6 @@
 -- The vertices of a code, counted block by block or node by node.
-use Rattle.std.proofs.Common.{◌≡◌, ℕ, zero, suc, ◌+◌, ◌<◌, ◌≤◌, Bool, true, false, ◌==◌, nat_lt, List, [], ◌∷◌, filter, sum_by, length, refl, sym, ap, ap₂, ◌∙◌, arith, tests}
+use Rattle.std.proofs.Common.{◌≡◌, ℕ, zero, suc, ◌+◌, ◌<◌, ◌≤◌, Bool, true, false, ◌==◌, nat_lt, List, [], ◌∷◌, filter, sum_by, length, refl, sym, ap}
+use Rattle.std.proofs.Common.{ap₂, ◌∙◌, arith, tests}
 use Rattle.std.proofs.Common.{inl, inr, cond, get_or}
 use Rattle.std.proofs.lemmas.Option.{slice_get_read}
 use Rattle.std.proofs.lemmas.List.Sums.{sum_by-cons, sum_by_push}
@@ -71,7 +72,8 @@ sum-more f n s t p q =
     ap₂ (λ a b. a + b) p q ∙ (sym (sum_by_push f (below n) n) ∙ ap (λ m. sum_by f (below m)) (let e : suc n ≡ n + 1 = omega arith in e))
 
 -- how many vertices the node at a place has
-pub vertices-there : (c : Code) (n : ℕ) (node : Node) (t : ℕ) → n < length c.nodes → node ≡ get_or c.nodes n node → t ≡ cond (is_split node.kind) 2 1 → t ≡ vertices_at c n
+pub vertices-there : (c : Code) (n : ℕ) (node : Node) (t : ℕ) → n < length c.nodes → node ≡ get_or c.nodes n node → t ≡ cond (is_split node.kind) 2 1
+    → t ≡ vertices_at c n
 vertices-there c n node t l r e = go (is_split node.kind) refl
   where
     there : kind_at c n ≡ node.kind

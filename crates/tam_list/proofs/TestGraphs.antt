@@ -52,12 +52,14 @@ fed_by_itself-accepted n x a b = record { has_main = refl; few_codes = refl; wri
 abbrev pub caller : Named → Named → Named → Named → Code
 caller x f y z =
     one_block main_name
-    (node 0 x (Param 0) ∷ node 0 f (Call 1) ∷ node 0 None (Arg 1 0 0) ∷ node 0 y (Ret 1 0) ∷ node 0 None (Arg 1 1 3) ∷ node 0 z (Ret 1 1) ∷ node 0 None (Give 0 5) ∷ [])
+    (node 0 x (Param 0) ∷ node 0 f (Call 1) ∷ node 0 None (Arg 1 0 0) ∷ node 0 y (Ret 1 0) ∷ node 0 None (Arg 1 1 3) ∷ node 0 z (Ret 1 1)
+    ∷ node 0 None (Give 0 5) ∷ [])
 
 abbrev pub callee : List ℕ → Named → Named → Named → Named → Named → Code
 callee g a b one c d =
     one_block g
-    (node 0 a (Param 0) ∷ node 0 b (Param 1) ∷ node 0 one (Const 1) ∷ node 0 c (Operate Add 0 2) ∷ node 0 d (Operate Add 1 3) ∷ node 0 None (Give 0 3) ∷ node 0 None (Give 1 4) ∷ [])
+    (node 0 a (Param 0) ∷ node 0 b (Param 1) ∷ node 0 one (Const 1) ∷ node 0 c (Operate Add 0 2) ∷ node 0 d (Operate Add 1 3) ∷ node 0 None (Give 0 3)
+    ∷ node 0 None (Give 1 4) ∷ [])
 
 pub fed_back-accepted : (x f y z : Named) (g : List ℕ) (a b one c d : Named) → IsAccepted (graph_of (caller x f y z ∷ callee g a b one c d ∷ []))
 fed_back-accepted x f y z g a b one c d = record { has_main = refl; few_codes = refl; written = written; no_fault = refl }

@@ -146,7 +146,10 @@ fn sets_of_two_codes(rt: HostRuntime) -> Result<(), Fail> {
     let graph = fed_back(rt.alloc())?;
     let text = print_sets(rt.alloc(), &graph).map_err(|_| "no memory")?;
     let wanted: &[u8] =
-        b"code 0 main\nblock 0\nvertex 0 dep 0 dem 2\nvertex 1a dep - dem 1a\nvertex 1b dep 1b dem 2,4\nvertex 2 dep 0,1b dem 2\nvertex 3 dep 3 dem 4\nvertex 4 dep 1b,3 dem 4\nvertex 5 dep 5 dem 6\nvertex 6 dep 5 dem 6\ncode 1 g\nblock 0\nvertex 0 dep 0 dem 5,6\nvertex 1 dep 1 dem 6\nvertex 2 dep - dem 5,6\nvertex 3 dep 0 dem 5,6\nvertex 4 dep 0,1 dem 6\nvertex 5 dep 0 dem 5\nvertex 6 dep 0,1 dem 6\n";
+        b"code 0 main\nblock 0\nvertex 0 dep 0 dem 2\nvertex 1a dep - dem 1a\nvertex 1b dep 1b dem 2,4\nvertex 2 dep 0,1b dem 2\n\
+          vertex 3 dep 3 dem 4\nvertex 4 dep 1b,3 dem 4\nvertex 5 dep 5 dem 6\nvertex 6 dep 5 dem 6\ncode 1 g\nblock 0\n\
+          vertex 0 dep 0 dem 5,6\nvertex 1 dep 1 dem 6\nvertex 2 dep - dem 5,6\nvertex 3 dep 0 dem 5,6\nvertex 4 dep 0,1 dem 6\n\
+          vertex 5 dep 0 dem 5\nvertex 6 dep 0,1 dem 6\n";
     assert_eq!(rt; text.as_slice(), wanted);
     Ok(())
 }

@@ -59,7 +59,8 @@ closed own next more k =
     ∙ ap (λ l. codes "code s" ++ (own ++ (codes "\nx = param 0\nk = const " ++ l))) (append_assoc own (codes "\n") (rest_lines next more))
     ∙ ends more
   where
-    ends : (m : Bool) → codes "code s" ++ (own ++ (codes "\nx = param 0\nk = const " ++ (own ++ (codes "\n" ++ rest_lines next m)))) ≡ step_with digits own next m
+    ends : (m : Bool) → codes "code s" ++ (own ++ (codes "\nx = param 0\nk = const " ++ (own ++ (codes "\n" ++ rest_lines next m)))) ≡ step_with
+        digits own next m
     ends true =
         ap (λ l. codes "code s" ++ (own ++ (codes "\nx = param 0\nk = const " ++ (own ++ (codes "\na1 = add x k\n" ++ (rungs_with digits
         ++ (codes "f = call s" ++ l))))))) (append_assoc next (codes "\n") (codes "arg f 0 a100\nr = ret f 0\nresult 0 r\nend\n"))

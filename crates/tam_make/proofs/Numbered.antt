@@ -1,5 +1,6 @@
 -- Lists made of the numbers below n.
-use Rattle.std.proofs.Common.{◌≡◌, ◌∙◌, ℕ, zero, suc, ◌<◌, ◌≤◌, ◌==◌, Bool, true, false, List, [], ◌∷◌, ◌++◌, refl, sym, ap, subst, arith, length, map, Some, inl, inr}
+use Rattle.std.proofs.Common.{◌≡◌, ◌∙◌, ℕ, zero, suc, ◌<◌, ◌≤◌, ◌==◌, Bool, true, false, List, [], ◌∷◌, ◌++◌, refl, sym, ap, subst, arith, length}
+use Rattle.std.proofs.Common.{map, Some, inl, inr}
 use Rattle.std.proofs.Common.{slice_get}
 use Rattle.std.proofs.Common.{flat_map}
 use Rattle.std.proofs.lemmas.Option.{slice_get-map}

@@ -1,5 +1,6 @@
 -- One edge more in the tables of sets: of classes directly behind each class, of places with an edge to each place.
-use Rattle.std.proofs.Common.{◌≡◌, ◌≢◌, ℕ, ◌<◌, Bool, true, false, ◌&&◌, ◌||◌, ◌==◌, List, [], ◌∷◌, map, drop, length, slice_set, refl, sym, ap, ◌∙◌, arith, tests}
+use Rattle.std.proofs.Common.{◌≡◌, ◌≢◌, ℕ, ◌<◌, Bool, true, false, ◌&&◌, ◌||◌, ◌==◌, List, [], ◌∷◌, map, drop, length, slice_set, refl, sym, ap, ◌∙◌}
+use Rattle.std.proofs.Common.{arith, tests}
 use Rattle.std.proofs.lemmas.List.{drop_all}
 use Rattle.tam_word.specs.Lists.{below, any_of}
 use Rattle.tam_word.proofs.Tests.{self-eq, eq-number, differs-number}

@@ -1,5 +1,6 @@
 -- The order in which a class fires, place by place, with sets of what was taken and of what comes before each place.
-use Rattle.std.proofs.Common.{◌≡◌, ℕ, zero, suc, ◌+◌, ◌<◌, ◌≤◌, Bool, true, false, ◌&&◌, ◌||◌, not, ◌==◌, List, [], ◌∷◌, ◌++◌, map, filter, drop, get_or, length, refl}
+use Rattle.std.proofs.Common.{◌≡◌, ℕ, zero, suc, ◌+◌, ◌<◌, ◌≤◌, Bool, true, false, ◌&&◌, ◌||◌, not, ◌==◌, List, [], ◌∷◌, ◌++◌, map, filter, drop}
+use Rattle.std.proofs.Common.{get_or, length, refl}
 use Rattle.std.proofs.Common.{if◌then◌else◌, sym, ap, ap₂, ◌∙◌, arith, inl, inr, true≢false}
 use Rattle.std.proofs.lemmas.List.{append_assoc, drop_more}
 use Rattle.tam_word.specs.Lists.{below, any_of, all_of, first_of, has}

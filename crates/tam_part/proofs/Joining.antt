@@ -1,5 +1,6 @@
 -- The ways of two classes of a valid partition tell whether they may be merged.
-use Rattle.std.proofs.Common.{◌≡◌, ℕ, ◌<◌, ◌≤◌, List, Bool, true, false, ◌&&◌, ◌||◌, ◌==◌, not, refl, sym, subst, ap, ap₂, inl, inr, ◌⊎◌, ◌∙◌, length, nat_lt, arith, true≢false}
+use Rattle.std.proofs.Common.{◌≡◌, ℕ, ◌<◌, ◌≤◌, List, Bool, true, false, ◌&&◌, ◌||◌, ◌==◌, not, refl, sym, subst, ap, ap₂, inl, inr, ◌⊎◌, ◌∙◌, length}
+use Rattle.std.proofs.Common.{nat_lt, arith, true≢false}
 use Rattle.tam_word.specs.Lists.{has}
 use Rattle.tam_word.proofs.Tests.{number-eq, eq-number, both-true, below-test, test-below}
 use Rattle.tam_word.proofs.Members.{any-in, in-map, all-in, in-all}
@@ -102,7 +103,8 @@ module _ (b : BlockGraph) (graph : IsBlockGraph b) (few : length b.vertices ≤ 
       let r = and-each (nat_lt y (length b.vertices) && place_leads b ps x y) (nat_lt y (length b.vertices) && place_leads b ps y x) h in
       let p = and-each (nat_lt y (length b.vertices)) (place_leads b ps x y) r.0 in
       let q = and-each (nat_lt y (length b.vertices)) (place_leads b ps y x) r.1 in
-      valid.one (class_of ps y) (class_of ps x) (leads_to-leads b ps (class_of ps y) (class_of ps x) q.1) (leads_to-leads b ps (class_of ps x) (class_of ps y) p.1)
+      valid.one (class_of ps y) (class_of ps x) (leads_to-leads b ps (class_of ps y) (class_of ps x) q.1)
+      (leads_to-leads b ps (class_of ps x) (class_of ps y) p.1)
 
   -- so a place of `own` is in one of the two
   own-class : (y : ℕ) → own y ≡ true → (class_of ps y ≡ k) ⊎ (class_of ps y ≡ l)
@@ -142,8 +144,10 @@ module _ (b : BlockGraph) (graph : IsBlockGraph b) (few : length b.vertices ≤ 
           × (((nat_lt y (length b.vertices) && place_leads b ps x y) && (nat_lt y (length b.vertices) && place_leads b ps y z)) ≡ true)
       at y h e =
           let s = below-test y (length b.vertices) h in
-          let u : place_leads b ps x y ≡ true = leads-leads_to b ps (class_of ps x) (class_of ps y) (subst (λ w. ClassLeads b ps (class_of ps x) w) (sym e) p) in
-          let v : place_leads b ps y z ≡ true = leads-leads_to b ps (class_of ps y) (class_of ps z) (subst (λ w. ClassLeads b ps w (class_of ps z)) (sym e) q) in (
+          let u : place_leads b ps x y ≡ true = leads-leads_to b ps (class_of ps x) (class_of ps y)
+          (subst (λ w. ClassLeads b ps (class_of ps x) w) (sym e) p) in
+          let v : place_leads b ps y z ≡ true = leads-leads_to b ps (class_of ps y) (class_of ps z)
+          (subst (λ w. ClassLeads b ps w (class_of ps z)) (sym e) q) in (
             y,
             e,
             h,
@@ -181,8 +185,12 @@ module _ (b : BlockGraph) (graph : IsBlockGraph b) (few : length b.vertices ≤ 
       way x z y h =
           let r = and-each (nat_lt y (length b.vertices) && place_leads b ps x y) (nat_lt y (length b.vertices) && place_leads b ps y z) h in
           let p = and-each (nat_lt y (length b.vertices)) (place_leads b ps x y) r.0 in
-          let q = and-each (nat_lt y (length b.vertices)) (place_leads b ps y z) r.1 in
-          (test-below y (length b.vertices) p.0, leads_to-leads b ps (class_of ps x) (class_of ps y) p.1, leads_to-leads b ps (class_of ps y) (class_of ps z) q.1)
+          let q = and-each (nat_lt y (length b.vertices)) (place_leads b ps y z) r.1 in (
+            test-below y (length b.vertices) p.0,
+            leads_to-leads b ps (class_of ps x) (class_of ps y) p.1,
+            leads_to-leads b ps (class_of ps y)
+                (class_of ps z) q.1,
+          )
 
       differ : (x z : ℕ) → (x == z) ≡ false → x ≡ z → ⊥
       differ x z p e = true≢false (sym (eq-number x z e) ∙ p)
@@ -224,7 +232,8 @@ module _ (b : BlockGraph) (graph : IsBlockGraph b) (few : length b.vertices ≤ 
       may h =
           let n = none-told h in
           valid-is_valid b (merged ps k l) (record {
-            one = one-after b.edges (class_of ps) (class_of (merged ps k l)) k l below (parts-after (length b.vertices) ps parts k l below within) valid.one n.0 n.1;
+            one = one-after b.edges (class_of ps) (class_of (merged ps k l)) k l below (parts-after (length b.vertices) ps parts k l below within)
+                valid.one n.0 n.1;
             keeps = kept-keeps b (merged ps k l) (keeps (keeps_dependences b (merged ps k l)) refl);
           })
 

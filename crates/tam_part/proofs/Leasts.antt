@@ -56,7 +56,8 @@ module _ (ps : Parts) (kept : AreClasses ps) where
       step : (j : ℕ) → j < k + 1 → (t : Bool) → (j == k) ≡ t
           → way_in (set now (first_in ps k) w) (first_in ps j) ≡ ways_after both (first_in ps j) (way_in old (first_in ps j))
       step j l true e =
-          subst (λ i. way_in (set now (first_in ps k) w) (first_in ps i) ≡ ways_after both (first_in ps i) (way_in old (first_in ps i))) (sym (number-eq j k e)) own
+          subst (λ i. way_in (set now (first_in ps k) w) (first_in ps i) ≡ ways_after both (first_in ps i) (way_in old (first_in ps i)))
+          (sym (number-eq j k e)) own
       step j l false e =
           let d = number-differs j k e in
           let m : j < k = omega (arith, l, d) in

@@ -1,5 +1,6 @@
 -- Places whose classes are apart: what is noted stays true.
-use Rattle.std.proofs.Common.{◌≡◌, ℕ, ◌<◌, ◌≤◌, List, [], Bool, true, false, ◌||◌, ◌==◌, refl, sym, subst, subst₂, ap, inl, inr, ◌⊎◌, ◌∙◌, length, arith, true≢false, IsTrue}
+use Rattle.std.proofs.Common.{◌≡◌, ℕ, ◌<◌, ◌≤◌, List, [], Bool, true, false, ◌||◌, ◌==◌, refl, sym, subst, subst₂, ap, inl, inr, ◌⊎◌, ◌∙◌, length}
+use Rattle.std.proofs.Common.{arith, true≢false, IsTrue}
 use Rattle.std.proofs.Common.{map, get_or, set}
 use Rattle.std.proofs.lemmas.List.{get_or-set_same, get_or-set_other}
 use Rattle.std.proofs.Math.ListN.{length-set}
@@ -92,7 +93,8 @@ noted-cases old a c s t la lc is it x y h =
 joined-cases : (y : ℕ) (xs ys : List ℕ) → y < 512 → has (joined xs ys) y ≡ true → (has xs y ≡ true) ⊎ (has ys y ≡ true)
 joined-cases y xs ys l h = or-cases (has xs y) (has ys y) (sym (has-where (λ z. has xs z || has ys z) y l) ∙ h)
 
-module _ (b : BlockGraph) (few : length b.vertices ≤ 512) (ps : Parts) (parts : IsParts (length b.vertices) ps) (k l : ℕ) (below : k < l) (within : l < length ps)
+module _ (b : BlockGraph) (few : length b.vertices ≤ 512) (ps : Parts) (parts : IsParts (length b.vertices) ps) (k l : ℕ) (below : k < l)
+    (within : l < length ps)
     (a c : ℕ) (in_k : class_of ps a ≡ k) (in_l : class_of ps c ≡ l) (la : a < length b.vertices) (lc : c < length b.vertices)
     (old : List (List ℕ)) (was : AreSeparated b ps old) where
   -- after the merge the classes of two places are apart
@@ -103,7 +105,8 @@ module _ (b : BlockGraph) (few : length b.vertices ≤ 512) (ps : Parts) (parts 
   still : (x y : ℕ) → are_apart b ps (class_of ps x) (class_of ps y) ≡ true → Still x y
   unfolding Still
   still x y h =
-      let w = apart-new b (length b.vertices) ps parts k l below within (class_of ps x) (class_of ps y) (are_apart-apart b ps (class_of ps x) (class_of ps y) h) in
+      let w = apart-new b (length b.vertices) ps parts k l below within (class_of ps x) (class_of ps y)
+      (are_apart-apart b ps (class_of ps x) (class_of ps y) h) in
       apart-are_apart b (merged ps k l) (class_of (merged ps k l) x) (class_of (merged ps k l) y)
       (subst₂ (λ u v. Apart b (merged ps k l) u v) (new-class b (length b.vertices) ps parts k l below within x)
       (new-class b (length b.vertices) ps parts k l below within y) w)

@@ -75,7 +75,8 @@ module _ (b : BlockGraph) (n : ℕ) (ps : Parts) (parts : IsParts n ps) (valid :
   become x = new b n ps parts k l below within x
 
   -- two others that may be merged after the merge might be before it
-  pub may-before : become a < become c → become c < length (merged ps k l) → may_merge b (merged ps k l) (become a, become c) ≡ true → may_merge b ps (a, c) ≡ true
+  pub may-before : become a < become c → become c < length (merged ps k l) → may_merge b (merged ps k l) (become a, become c) ≡ true
+      → may_merge b ps (a, c) ≡ true
   may-before rising low h = near-may b n ps parts valid a c order inside
       (λ w. may-near b n (merged ps k l) (merged-parts n ps parts k l below within) after (become a) (become c) rising low h
       (apart-new b n ps parts k l below within a c w))

@@ -1,5 +1,6 @@
 -- The places by which classes are known, and the ways when each place is a class of its own.
-use Rattle.std.proofs.Common.{◌≡◌, ℕ, zero, suc, ◌<◌, List, [], ◌∷◌, Bool, true, false, ◌&&◌, ◌==◌, refl, sym, subst, ap, ap₂, inl, inr, ◌∙◌, length, nat_lt, arith, true≢false, get_or}
+use Rattle.std.proofs.Common.{◌≡◌, ℕ, zero, suc, ◌<◌, List, [], ◌∷◌, Bool, true, false, ◌&&◌, ◌==◌, refl, sym, subst, ap, ap₂, inl, inr, ◌∙◌, length}
+use Rattle.std.proofs.Common.{nat_lt, arith, true≢false, get_or}
 use Rattle.std.proofs.Common.{map}
 use Rattle.tam_word.specs.Lists.{below, has}
 use Rattle.tam_word.proofs.Tests.{number-eq, both-true, below-test, test-below}
@@ -30,7 +31,8 @@ class-in (p ∷ ps) (suc k) h = inr (class-in ps k (omega arith))
 
 -- it has a place
 pub class-long : (ps : Parts) → AreClasses ps → (k : ℕ) → k < length ps → 0 < length (class_at ps k)
-class-long ps kept k h = test-below 0 (length (class_at ps k)) (all-in (λ (p : List ℕ). nat_lt 0 (length p)) ps kept.none_empty (class_at ps k) (class-in ps k h))
+class-long ps kept k h = test-below 0 (length (class_at ps k)) (all-in (λ (p : List ℕ). nat_lt 0 (length p)) ps kept.none_empty (class_at ps k)
+    (class-in ps k h))
 
 -- the first of some is one of them
 pub first-has : (xs : List ℕ) → 0 < length xs → has xs (get_or xs 0 0) ≡ true
@@ -53,7 +55,8 @@ module _ (b : BlockGraph) (graph : IsBlockGraph b) where
   -- what the class of a place leads to is the class of a place
   led-within : (x z : ℕ) → x < length b.vertices → ClassLeads b each x z → z < length b.vertices
   unfolding each
-  led-within x z l h = elim (last-edge (reaches-walk (under (class_of each) b.edges) x z h)) [ inl e ↦ subst (λ w. w < length b.vertices) e l | inr r ↦ ends r.0 r.2 ]
+  led-within x z l h = elim (last-edge (reaches-walk (under (class_of each) b.edges) x z h))
+      [ inl e ↦ subst (λ w. w < length b.vertices) e l | inr r ↦ ends r.0 r.2 ]
     where
       ends : (w : ℕ) → is_edge (under (class_of (single (length b.vertices))) b.edges) w z ≡ true → z < length b.vertices
       ends w e =
@@ -72,7 +75,8 @@ module _ (b : BlockGraph) (graph : IsBlockGraph b) where
       (λ y m. ahead y (nat_lt y (length b.vertices)) refl))
       (places-same (λ y. nat_lt y (length (single (length b.vertices))) && leads_to b.edges (single (length b.vertices)) y x)
       (λ y. nat_lt y (length b.vertices) && place_leads b (single (length b.vertices)) y x) (λ y m.
-      ap (λ n. nat_lt y n && leads_to b.edges (single (length b.vertices)) y x) (length-single (length b.vertices)) ∙ behind y (nat_lt y (length b.vertices)) refl))
+      ap (λ n. nat_lt y n && leads_to b.edges (single (length b.vertices)) y x) (length-single (length b.vertices))
+      ∙ behind y (nat_lt y (length b.vertices)) refl))
       (ap (entering_of b (single (length b.vertices))) (sym own)) (ap (allowed_of b (single (length b.vertices))) (sym own))
     where
       own : class_of (single (length b.vertices)) x ≡ x

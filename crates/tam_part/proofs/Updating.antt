@@ -109,7 +109,8 @@ and-table : (i s t u : Bool) → ((i && s) && ((i && t) && (i && u))) ≡ (i && 
 and-table true s t u = refl
 and-table false s t u = refl
 
-module _ (b : BlockGraph) (few : length b.vertices ≤ 512) (ps : Parts) (parts : IsParts (length b.vertices) ps) (k l : ℕ) (below : k < l) (within : l < length ps)
+module _ (b : BlockGraph) (few : length b.vertices ≤ 512) (ps : Parts) (parts : IsParts (length b.vertices) ps) (k l : ℕ) (below : k < l)
+    (within : l < length ps)
     (a c : ℕ) (in_k : class_of ps a ≡ k) (in_l : class_of ps c ≡ l) where
   -- what leads from place to place after the merge
   after : (x y : ℕ) → place_leads b (merged ps k l) x y ≡ joined_leads (place_leads b ps) a c x y
@@ -157,9 +158,12 @@ module _ (b : BlockGraph) (few : length b.vertices ≤ 512) (ps : Parts) (parts 
       three (λ y. nat_lt y (length b.vertices) && place_leads b ps x y) (λ y. nat_lt y (length b.vertices) && place_leads b ps a y)
       (λ y. nat_lt y (length b.vertices) && place_leads b ps c y)
       ∙ places-same _ _ (λ y m. ahead-table (nat_lt y (length b.vertices)) (place_leads b ps x y) (place_leads b ps a y) (place_leads b ps c y)
-      ∙ sym (ap (λ z. nat_lt y (length b.vertices) && z) (after x y ∙ ap (λ w. place_leads b ps x y || (w && (place_leads b ps a y || place_leads b ps c y))) e)))
-  ahead-after x false e = places-same _ _ (λ y m. same-table (nat_lt y (length b.vertices)) (place_leads b ps x y) (place_leads b ps a y || place_leads b ps c y)
-      ∙ sym (ap (λ z. nat_lt y (length b.vertices) && z) (after x y ∙ ap (λ w. place_leads b ps x y || (w && (place_leads b ps a y || place_leads b ps c y))) e)))
+      ∙ sym (ap (λ z. nat_lt y (length b.vertices) && z) (after x y ∙ ap
+      (λ w. place_leads b ps x y || (w && (place_leads b ps a y || place_leads b ps c y))) e)))
+  ahead-after x false e = places-same _ _ (λ y m. same-table (nat_lt y (length b.vertices)) (place_leads b ps x y)
+      (place_leads b ps a y || place_leads b ps c y)
+      ∙ sym (ap (λ z. nat_lt y (length b.vertices) && z) (after x y ∙ ap
+      (λ w. place_leads b ps x y || (w && (place_leads b ps a y || place_leads b ps c y))) e)))
 
   -- what leads to it
   behind-after : (x : ℕ) (t : Bool) → (place_leads b ps a x || place_leads b ps c x) ≡ t
@@ -225,7 +229,8 @@ module _ (b : BlockGraph) (few : length b.vertices ≤ 512) (ps : Parts) (parts 
           all-same (allows b (merged ps k l) (class_of (merged ps k l) x) i)
           (λ o. allows b ps (class_of ps x) i o && (allows b ps (class_of ps a) i o && allows b ps (class_of ps c) i o)) (λ o. allows-after x i o e) (places b)
           ∙ (all-and (allows b ps (class_of ps x) i) (λ o. allows b ps (class_of ps a) i o && allows b ps (class_of ps c) i o) (places b)
-          ∙ ap (λ z. all_of (allows b ps (class_of ps x) i) (places b) && z) (all-and (allows b ps (class_of ps a) i) (allows b ps (class_of ps c) i) (places b)))
+          ∙ ap (λ z. all_of (allows b ps (class_of ps x) i) (places b) && z)
+          (all-and (allows b ps (class_of ps a) i) (allows b ps (class_of ps c) i) (places b)))
   allowed-after x false e = places-same _ _ (λ i m. ap (λ z. (vertex_at b i).inlet && z)
       (sym (all-same (allows b (merged ps k l) (class_of (merged ps k l) x) i) (allows b ps (class_of ps x) i) (λ o. allows-same x i o e) (places b))))
 
@@ -263,4 +268,5 @@ ways-merged b ps k l a c old news few parts kept below within in_k in_l la lc wa
         subst (λ z. way_in news z ≡ ways_after (both_ways (way_in old a) (way_in old c)) z (way_in old z)) (sym first)
         (added.each (class_of ps x) (parts.in_one x h)) in
         here ∙ (ap₂ (λ (u v : Ways). ways_after (both_ways u v) x (way_in old x)) (ways.each a la.0 la.1) (ways.each c lc.0 lc.1)
-        ∙ (ap (ways_after (both_ways (ways_at b ps a) (ways_at b ps c)) x) (ways.each x h least) ∙ after-ways b few ps parts k l below within a c in_k in_l x h))
+        ∙ (ap (ways_after (both_ways (ways_at b ps a) (ways_at b ps c)) x) (ways.each x h least) ∙ after-ways b few ps parts k l below within a
+        c in_k in_l x h))

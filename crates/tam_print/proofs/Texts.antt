@@ -14,7 +14,7 @@ use Rattle.tam_graph.specs.Written.{Visit, AtNode, AtElse, AtEnd, branches, visi
 use Rattle.tam_graph.specs.Texts.{Line, Bytes, line_text, visit_line, node_line, tokens, is_named, suffix, or_bytes, or_name, end_line, code_lines, canonical}
 use Rattle.tam_graph.specs.Reading.{is_named_right, IsCodeOfText}
 use Rattle.std.proofs.lemmas.Option.{slice_get_within}
-use Rattle.tam_print.specs.PrintedLines.{front_text, block_text, branches_text, code_text}
+use Rattle.tam_print.specs.PrintedLines.{prefix_text, block_text, branches_text, code_text}
 
 -- ---- nodes
 
@@ -58,13 +58,13 @@ module _ (g : Graph) (codes_there : ℕ) (c : Code) (code : IsCodeOfText codes_t
       (below-in x (length c.nodes) (slice_get_within c.nodes x n there)) in rw there at h
 
   -- it is what stands before the verb, and the tokens behind it
-  pub node-text : line_text (node_line g c x) ≡ front_text n.name n.depth ++ line_text (tokens g c n.kind)
+  pub node-text : line_text (node_line g c x) ≡ prefix_text n.name n.depth ++ line_text (tokens g c n.kind)
   node-text =
       ap (λ o. line_text (line_at g c o)) there
       ∙ go (is_named n.kind) n.name (all-in is_named_right c.nodes code.nodes_named n (get-in c.nodes x n there))
     where
       go : (t : Bool) (name : Option (List ℕ)) → (elim t as (λ _. Bool) [ true ↦ is_name (or_bytes name) | false ↦ is_none name ]) ≡ true
-          → line_text (with_name t (or_bytes name ++ suffix n.depth) (tokens g c n.kind)) ≡ front_text name n.depth ++ line_text (tokens g c n.kind)
+          → line_text (with_name t (or_bytes name ++ suffix n.depth) (tokens g c n.kind)) ≡ prefix_text name n.depth ++ line_text (tokens g c n.kind)
       go true None h = absurd (no-name h)
       go true (Some name) h =
           named-line g c (name ++ suffix n.depth) n.kind ∙ append_assoc name (suffix n.depth) (codes " = " ++ line_text (tokens g c n.kind))

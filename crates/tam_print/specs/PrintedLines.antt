@@ -8,9 +8,9 @@ use Rattle.tam_graph.specs.Written.{visits}
 use Rattle.tam_graph.specs.Texts.{suffix, line_text, visit_line, code_lines}
 
 -- what stands before the verb of a node's line: its name and its depth, where it has a name
-abbrev pub front_text : Option (List ℕ) → ℕ → List ℕ
-front_text None depth = []
-front_text (Some name) depth = name ++ (suffix depth ++ codes " = ")
+abbrev pub prefix_text : Option (List ℕ) → ℕ → List ℕ
+prefix_text None depth = []
+prefix_text (Some name) depth = name ++ (suffix depth ++ codes " = ")
 
 -- a block and the blocks in it, down to a nesting
 abbrev pub block_text : Graph → Code → ℕ → ℕ → List ℕ

@@ -3,7 +3,7 @@ ghost use Rattle.std.specs.Prelude.{◌≡◌, ◌<◌, ◌++◌, true, length, 
 ghost use Rattle.tam_graph.specs.Written.{is_line};
 ghost use Rattle.tam_graph.specs.Reading.{IsCodeOfText};
 ghost use Rattle.tam_graph.specs.Texts.{line_text, tokens, or_name, node_line};
-ghost use Rattle.tam_print.specs.PrintedLines.{front_text};
+ghost use Rattle.tam_print.specs.PrintedLines.{prefix_text};
 
 use crate::line::{
     push_const, push_named, push_one, push_place, push_place_of, push_three, push_two, push_value,
@@ -21,13 +21,13 @@ pub fn push_node(text: &mut Vec<u8>, g: &Graph, code: &Code, x: u32) -> Result<(
 {
     let nodes = code.nodes();
     let node = nodes[x as usize];
-    push_front(text, node.name, node.depth)?;
+    push_prefix(text, node.name, node.depth)?;
     push_tokens(text, g, code, node.kind)
 }
 
 // Adds what stands before the verb on a node's line: its name and its depth, where it has a name.
-fn push_front(text: &mut Vec<u8>, name: Option<Name>, depth: u8) -> Result<(), AllocError>
-    ensures ok { OnOk result (text.new.items ≡ text.old.items ++ front_text name depth) }
+fn push_prefix(text: &mut Vec<u8>, name: Option<Name>, depth: u8) -> Result<(), AllocError>
+    ensures ok { OnOk result (text.new.items ≡ text.old.items ++ prefix_text name depth) }
 {
     match name {
         Some(name) => push_named(text, name.bytes(), depth),

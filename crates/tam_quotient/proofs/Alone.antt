@@ -40,7 +40,8 @@ module _ (b : BlockGraph) (graph : IsBlockGraph b) (few : length b.vertices ≤ 
   numbers-classes names e = e ∙ ext_get_or 0 (below (length b.vertices)) (map (class_of (single (length b.vertices))) (below (length b.vertices)))
       (length-below (length b.vertices) ∙ sym (length-table (class_of (single (length b.vertices))) (length b.vertices)))
       (λ k l. let m : k < length b.vertices = let n = length-below (length b.vertices) in omega (arith, l, n) in
-      get-number (length b.vertices) k m ∙ sym (get-table (class_of (single (length b.vertices))) (length b.vertices) k 0 m ∙ single-class (length b.vertices) k m))
+      get-number (length b.vertices) k m ∙ sym (get-table (class_of (single (length b.vertices))) (length b.vertices) k 0 m
+      ∙ single-class (length b.vertices) k m))
 
   -- the ends of the edges have classes
   pub alone-below : (n : ℕ) (es : Edges) (names : List ℕ) → n ≡ length b.vertices → es ≡ b.edges → names ≡ below (length b.vertices) → AreBelow n es names

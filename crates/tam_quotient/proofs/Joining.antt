@@ -44,7 +44,8 @@ module _ (b : BlockGraph) (graph : IsBlockGraph b) (few : length b.vertices ≤ 
   allows-reaches c i o h p l =
       let q = outlet-place o p in
       let e : allows b ps c i o ≡ true = all-in (allows b ps c i) (places b) h o (below-in o (length b.vertices) q.0) in
-      let t : leads_to_outlet b ps c o ≡ true = true-both (vertex_at b o).outlet (leads_to b.edges ps c (class_of ps o)) q.1 (leads-leads_to b ps c (class_of ps o) l) in
+      let t : leads_to_outlet b ps c o ≡ true = true-both (vertex_at b o).outlet (leads_to b.edges ps c (class_of ps o)) q.1
+      (leads-leads_to b ps c (class_of ps o) l) in
       rw (allows, t) at e
 
   -- where the inlets that enter d are allowed by c, c doesn't leak to d

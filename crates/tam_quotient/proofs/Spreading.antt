@@ -32,7 +32,8 @@ reaches-push es e x y = same-test (reaches (es ++ e ∷ []) x y) (reaches (e ∷
 -- where x reaches the edge's start, it reaches what the edge's end reaches besides
 pub row-grows : (es : Edges) (a c x : ℕ) → reaches es x a ≡ true
     → joined (places_where (reaches es x)) (places_where (reaches es c)) ≡ places_where (reaches (es ++ (a, c) ∷ []) x)
-row-grows es a c x h = places-same _ _ (λ y l. rw (has-where (reaches es x) y l, has-where (reaches es c) y l) (sym (reaches-push es (a, c) x y ∙ step y (reaches es x y) refl)))
+row-grows es a c x h = places-same _ _ (λ y l. rw (has-where (reaches es x) y l, has-where (reaches es c) y l)
+    (sym (reaches-push es (a, c) x y ∙ step y (reaches es x y) refl)))
   where
     step : (y : ℕ) (t : Bool) → reaches es x y ≡ t → reaches ((a, c) ∷ es) x y ≡ (reaches es x y || reaches es c y)
     step y true p = rw p refl

@@ -31,7 +31,8 @@ lists-elements : (ps : Parts) → all_of (λ p. nat_lt 0 (length p)) ps ≡ true
 lists-elements [] h = omega arith
 lists-elements (p ∷ ps) h = go (nat_lt 0 (length p)) refl (lists-elements ps)
   where
-    go : (t : Bool) → nat_lt 0 (length p) ≡ t → (all_of (λ q. nat_lt 0 (length q)) ps ≡ true → length ps ≤ length (concat ps)) → length (p ∷ ps) ≤ length (concat (p ∷ ps))
+    go : (t : Bool) → nat_lt 0 (length p) ≡ t → (all_of (λ q. nat_lt 0 (length q)) ps ≡ true → length ps ≤ length (concat ps))
+        → length (p ∷ ps) ≤ length (concat (p ∷ ps))
     go true e i =
         let r : length ps ≤ length (concat ps) = i (rw (all_of, e) at h) in
         let l : 0 < length p = test-below 0 (length p) e in
@@ -162,13 +163,15 @@ module _ (b : BlockGraph) (graph : IsBlockGraph b) (ps : Parts) (whole : IsParti
     column-behind = ap (λ n. places_where (λ c. nat_lt c n && has (set_at leads c) k)) (length-table (ahead_of b ps) (length ps))
         ∙ places-same _ _ (λ c l. go c (nat_lt c (length ps)) refl)
       where
-        go : (c : ℕ) (t : Bool) → nat_lt c (length ps) ≡ t → (nat_lt c (length ps) && has (set_at leads c) k) ≡ (nat_lt c (length ps) && leads_to b.edges ps c k)
+        go : (c : ℕ) (t : Bool) → nat_lt c (length ps) ≡ t → (nat_lt c (length ps) && has (set_at leads c) k) ≡
+            (nat_lt c (length ps) && leads_to b.edges ps c k)
         go c true p = rw p (lead-has c k (test-below c (length ps) p) small)
         go c false p = rw p refl
 
     -- which inlets lead to it
     entered-entering : entered (inlets_of b) classes (column leads k) ≡ entering_of b ps k
-    entered-entering = ap (entered (inlets_of b) classes) column-behind ∙ places-same _ _ (λ i l. ap (λ t. t && has (behind_of b ps k) (get_or classes i 0)) (inlets-has i)
+    entered-entering = ap (entered (inlets_of b) classes) column-behind
+        ∙ places-same _ _ (λ i l. ap (λ t. t && has (behind_of b ps k) (get_or classes i 0)) (inlets-has i)
         ∙ go i (vertex_at b i).inlet refl)
       where
         go : (i : ℕ) (t : Bool) → (vertex_at b i).inlet ≡ t
@@ -187,7 +190,8 @@ module _ (b : BlockGraph) (graph : IsBlockGraph b) (ps : Parts) (whole : IsParti
         ∙ go i (vertex_at b i).inlet refl)
       where
         led : (o : ℕ) → o < length b.vertices → has (set_at leads k) (get_or classes o 0) ≡ leads_to b.edges ps k (class_of ps o)
-        led o h = ap (has (set_at leads k)) (class-at o h) ∙ lead-has k (class_of ps o) there (let c : class_of ps o < length ps = whole.in_one o h in omega (arith, c, least))
+        led o h = ap (has (set_at leads k)) (class-at o h) ∙ lead-has k (class_of ps o) there (let c : class_of ps o < length ps = whole.in_one o h in
+            omega (arith, c, least))
 
         same : (i o : ℕ) → (vertex_at b i).inlet ≡ true → o < length b.vertices → (vertex_at b o).outlet ≡ true
             → is_met classes (set_at leads k) needs i o ≡ allows b ps k i o
@@ -208,7 +212,8 @@ module _ (b : BlockGraph) (graph : IsBlockGraph b) (ps : Parts) (whole : IsParti
             step true e r =
                 let kept : filter (λ x. (vertex_at b x).outlet) (o ∷ os) ≡ o ∷ filter (λ x. (vertex_at b x).outlet) os = rw e refl in
                 ap (all_of (is_met classes (set_at leads k) needs i)) kept
-                ∙ all-step (is_met classes (set_at leads k) needs i) (allows b ps k i) o (filter (λ x. (vertex_at b x).outlet) os) os (same i o p (low o (inl refl)) e) r
+                ∙ all-step (is_met classes (set_at leads k) needs i) (allows b ps k i) o (filter (λ x. (vertex_at b x).outlet) os) os
+                (same i o p (low o (inl refl)) e) r
             step false e r = rw (e, all_of) r
 
         go : (i : ℕ) (t : Bool) → (vertex_at b i).inlet ≡ t → ((vertex_at b i).inlet && all_of (is_met classes (set_at leads k) needs i) (outlets_of b))
@@ -231,7 +236,8 @@ module _ (b : BlockGraph) (graph : IsBlockGraph b) (ps : Parts) (whole : IsParti
   -- the ends of the edges have classes
   pub are_below : (n : ℕ) (es : Edges) (names : List ℕ) → n ≡ length ps → es ≡ b.edges → names ≡ classes → AreBelow n es names
   are_below n es names p q r =
-      subst (λ m. AreBelow m es names) (sym p) (subst (λ ds. AreBelow (length ps) ds names) (sym q) (subst (λ xs. AreBelow (length ps) b.edges xs) (sym r) classes-below))
+      subst (λ m. AreBelow m es names) (sym p) (subst (λ ds. AreBelow (length ps) ds names) (sym q)
+      (subst (λ xs. AreBelow (length ps) b.edges xs) (sym r) classes-below))
 
   -- the sets are what the classes lead to
   pub are_leads : (n : ℕ) (es : Edges) (names : List ℕ) (sets : List (List ℕ)) → n ≡ length ps → es ≡ b.edges → names ≡ classes

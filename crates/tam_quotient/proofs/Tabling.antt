@@ -1,5 +1,6 @@
 -- Lists and sets that grow by one number, and what stands at a place of a list that has an entry for each number.
-use Rattle.std.proofs.Common.{◌≡◌, ℕ, zero, suc, ◌+◌, ◌<◌, ◌≤◌, List, [], ◌∷◌, ◌++◌, Bool, true, false, ◌&&◌, refl, sym, ap, ap₂, subst, inl, inr, arith, ◌∙◌, true≢false, ◌==◌, ◌||◌}
+use Rattle.std.proofs.Common.{◌≡◌, ℕ, zero, suc, ◌+◌, ◌<◌, ◌≤◌, List, [], ◌∷◌, ◌++◌, Bool, true, false, ◌&&◌, refl, sym, ap, ap₂, subst, inl, inr}
+use Rattle.std.proofs.Common.{arith, ◌∙◌, true≢false, ◌==◌, ◌||◌}
 use Rattle.std.proofs.Common.{length, map, filter, get_or, take, slice_get}
 use Rattle.std.proofs.lemmas.List.{map-append, append-nil, get_or-map, ext_get_or, take_more}
 use Rattle.std.proofs.lemmas.List.Elements.{filter-append}
@@ -196,7 +197,8 @@ filter-put test n h = ap (filter test) (below-more n) ∙ (filter-append test (b
 -- and another isn't
 pub filter-skip : (test : ℕ → Bool) (n : ℕ) → test n ≡ false → filter test (below (n + 1)) ≡ filter test (below n)
 filter-skip test n h =
-    ap (filter test) (below-more n) ∙ (filter-append test (below n) (n ∷ []) ∙ (ap (λ xs. filter test (below n) ++ xs) (rw h refl) ∙ append-nil (filter test (below n))))
+    ap (filter test) (below-more n) ∙ (filter-append test (below n) (n ∷ [])
+    ∙ (ap (λ xs. filter test (below n) ++ xs) (rw h refl) ∙ append-nil (filter test (below n))))
 
 -- ---- edges one by one
 

@@ -21,16 +21,17 @@ use Rattle.tam_read.proofs.Complete.{complete}
 use Rattle.tam_read.proofs.OfText.{faultless-reads}
 
 -- an element behind others stands at their number
-at-front : (front : List Code) (c : Code) (back : List Code) → slice_get (front ++ c ∷ back) (length front) ≡ Some c
-at-front [] c back = refl
-at-front (f ∷ fs) c back = at-front fs c back
+at-prefix : (prefix : List Code) (c : Code) (back : List Code) → slice_get (prefix ++ c ∷ back) (length prefix) ≡ Some c
+at-prefix [] c back = refl
+at-prefix (f ∷ fs) c back = at-prefix fs c back
 
 -- a code of a graph of a text is a code of a text
-pub code-of-text : (front : List Code) (c : Code) (back all : List Code) → front ++ c ∷ back ≡ all → IsOfText (graph_of all) → IsCode c
-code-of-text front c back all parts of =
-    let long : length front + suc (length back) ≡ length all = sym (length-append front (c ∷ back)) ∙ ap length parts in
-    let is : code_of (graph_of all) (length front) ≡ c = ap (λ cs. or_code (slice_get cs (length front))) (sym parts) ∙ ap or_code (at-front front c back) in
-    (length all, of.few_codes, subst (λ d. IsCodeOfText (length all) d) is (of.each_code (length front) (omega arith)))
+pub code-of-text : (prefix : List Code) (c : Code) (back all : List Code) → prefix ++ c ∷ back ≡ all → IsOfText (graph_of all) → IsCode c
+code-of-text prefix c back all parts of =
+    let long : length prefix + suc (length back) ≡ length all = sym (length-append prefix (c ∷ back)) ∙ ap length parts in
+    let is : code_of (graph_of all) (length prefix) ≡ c = ap (λ cs. or_code (slice_get cs (length prefix))) (sym parts)
+    ∙ ap or_code (at-prefix prefix c back) in
+    (length all, of.few_codes, subst (λ d. IsCodeOfText (length all) d) is (of.each_code (length prefix) (omega arith)))
 
 -- the codes of what was read
 codes-of-parts : (ps : List Fields) → map code_of_part ps ≡ map (λ p. p.code) (map part ps)
@@ -55,7 +56,8 @@ codes-are bytes ps e = codes-of-parts ps ∙ ap (map (λ p. p.code)) e
 -- and the lines of their places
 pub lines-are : (bytes : List ℕ) (ps : List Fields) → map part ps ≡ parts_in bytes → map lines_of_part ps ≡ lines_in bytes
 lines-are bytes ps e =
-    lines-of-parts ps ∙ (ap (map (λ p. (p.line, p.lines))) e ∙ lines-of-pieces (codes_in (said_from 1 (lines_of bytes))) (pieces (said_from 1 (lines_of bytes))))
+    lines-of-parts ps ∙ (ap (map (λ p. (p.line, p.lines))) e ∙ lines-of-pieces (codes_in (said_from 1 (lines_of bytes)))
+    (pieces (said_from 1 (lines_of bytes))))
 
 -- the text reads as their graph
 pub parts-read : (bytes : List ℕ) (ps : List Fields) → map part ps ≡ parts_in bytes → faults bytes ≡ [] → Reads bytes (graph_of (map code_of_part ps))

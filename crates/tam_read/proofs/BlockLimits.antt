@@ -36,24 +36,24 @@ Owned c (Branch s y t n e r) x k =
     × Owned c r (suc x + size (shape y) + size (shape n)) (suc (suc k + opened (shape y)) + opened (shape n))
 
 -- an owner behind others stands at their number
-at_front : (front : List (Option ℕ)) (o : Option ℕ) (back : List (Option ℕ)) → slice_get (front ++ o ∷ back) (length front) ≡ Some o
-at_front [] o back = refl
-at_front (f ∷ fs) o back = at_front fs o back
+at_prefix : (prefix : List (Option ℕ)) (o : Option ℕ) (back : List (Option ℕ)) → slice_get (prefix ++ o ∷ back) (length prefix) ≡ Some o
+at_prefix [] o back = refl
+at_prefix (f ∷ fs) o back = at_prefix fs o back
 
 -- so does one in a row of owners
-owner_at : (c : Code) (k : ℕ) (front : List (Option ℕ)) (o : Option ℕ) (back : List (Option ℕ)) → c.owners ≡ front ++ o ∷ back → length front ≡ k
+owner_at : (c : Code) (k : ℕ) (prefix : List (Option ℕ)) (o : Option ℕ) (back : List (Option ℕ)) → c.owners ≡ prefix ++ o ∷ back → length prefix ≡ k
     → slice_get c.owners k ≡ Some o
-owner_at c k front o back e l = ap (λ os. slice_get os k) e ∙ ap (slice_get (front ++ o ∷ back)) (sym l) ∙ at_front front o back
+owner_at c k prefix o back e l = ap (λ os. slice_get os k) e ∙ ap (slice_get (prefix ++ o ∷ back)) (sym l) ∙ at_prefix prefix o back
 
 -- a row with one more is longer by one
-longer : (front : List (Option ℕ)) (o : Option ℕ) (k : ℕ) → length front ≡ k → length (front ++ o ∷ []) ≡ suc k
-longer front o k l = length-append front (o ∷ []) ∙ omega arith
+longer : (prefix : List (Option ℕ)) (o : Option ℕ) (k : ℕ) → length prefix ≡ k → length (prefix ++ o ∷ []) ≡ suc k
+longer prefix o k l = length-append prefix (o ∷ []) ∙ omega arith
 
 -- the owners in a row stand at the numbers of the tree's blocks
-pub owns : (c : Code) (t : Tree) (x k : ℕ) (front back : List (Option ℕ)) → c.owners ≡ front ++ (tree_owners t x ++ back) → length front ≡ k → Owned c t x k
-owns c Done x k front back e l = tt
-owns c (Plain s r) x k front back e l = owns c r (suc x) k front back e l
-owns c (Branch s y t n e r) x k front back same l =
+pub owns : (c : Code) (t : Tree) (x k : ℕ) (prefix back : List (Option ℕ)) → c.owners ≡ prefix ++ (tree_owners t x ++ back) → length prefix ≡ k → Owned c t x k
+owns c Done x k prefix back e l = tt
+owns c (Plain s r) x k prefix back e l = owns c r (suc x) k prefix back e l
+owns c (Branch s y t n e r) x k prefix back same l =
     let j = suc k + opened (shape y) in
     let m = suc j + opened (shape n) in
     let u = suc x + size (shape y) in
@@ -61,22 +61,22 @@ owns c (Branch s y t n e r) x k front back same l =
     let ys = tree_owners y (suc x) in
     let ns = tree_owners n u in
     let rs = tree_owners r v in
-    let f1 = front ++ Some x ∷ [] in
+    let f1 = prefix ++ Some x ∷ [] in
     let f2 = f1 ++ ys in
     let f3 = f2 ++ Some x ∷ [] in
     let f4 = f3 ++ ns in
-    let l1 : length f1 ≡ suc k = longer front (Some x) k l in
+    let l1 : length f1 ≡ suc k = longer prefix (Some x) k l in
     let l2 : length f2 ≡ j = length-append f1 ys ∙ omega (arith, l1, length-tree_owners y (suc x)) in
     let l3 : length f3 ≡ suc j = longer f2 (Some x) j l2 in
     let l4 : length f4 ≡ m = length-append f3 ns ∙ omega (arith, l3, length-tree_owners n u) in
     let e0 : (ys ++ (Some x ∷ (ns ++ rs))) ++ back ≡ ys ++ (Some x ∷ (ns ++ (rs ++ back))) = append_assoc ys (Some x ∷ (ns ++ rs)) back
     ∙ ap (λ z. ys ++ (Some x ∷ z)) (append_assoc ns rs back) in
-    let e1 : c.owners ≡ f1 ++ (ys ++ (Some x ∷ (ns ++ (rs ++ back)))) = same ∙ ap (λ z. front ++ (Some x ∷ z)) e0
-    ∙ sym (append_assoc front (Some x ∷ []) (ys ++ (Some x ∷ (ns ++ (rs ++ back))))) in
+    let e1 : c.owners ≡ f1 ++ (ys ++ (Some x ∷ (ns ++ (rs ++ back)))) = same ∙ ap (λ z. prefix ++ (Some x ∷ z)) e0
+    ∙ sym (append_assoc prefix (Some x ∷ []) (ys ++ (Some x ∷ (ns ++ (rs ++ back))))) in
     let e2 : c.owners ≡ f2 ++ (Some x ∷ (ns ++ (rs ++ back))) = e1 ∙ sym (append_assoc f1 ys (Some x ∷ (ns ++ (rs ++ back)))) in
     let e3 : c.owners ≡ f3 ++ (ns ++ (rs ++ back)) = e2 ∙ sym (append_assoc f2 (Some x ∷ []) (ns ++ (rs ++ back))) in
     let e4 : c.owners ≡ f4 ++ (rs ++ back) = e3 ∙ sym (append_assoc f3 ns (rs ++ back)) in (
-      owner_at c k front (Some x) ((ys ++ (Some x ∷ (ns ++ rs))) ++ back) same l,
+      owner_at c k prefix (Some x) ((ys ++ (Some x ∷ (ns ++ rs))) ++ back) same l,
       owns c y (suc x) (suc k) f1 (Some x ∷ (ns ++ (rs ++ back))) e1 l1,
       owner_at c j f2 (Some x) (ns ++ (rs ++ back)) e2 l2,
       owns c n u (suc j) f3 (rs ++ back) e3 l3,

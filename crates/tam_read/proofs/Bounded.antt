@@ -16,7 +16,7 @@ use Rattle.tam_read.proofs.Nested.{Tree, Done, Plain, Branch, flat, Fits, is_pla
 use Rattle.tam_read.proofs.Codes.{CodeLines, lines_of_code, lines_of_codes}
 use Rattle.tam_read.proofs.Clean.{AreClean, clean-parts, NoCode}
 use Rattle.tam_read.proofs.Contexts.{put_before, until-here}
-use Rattle.tam_read.proofs.CodeByCode.{clean-front, clean-back}
+use Rattle.tam_read.proofs.CodeByCode.{clean-prefix, clean-back}
 use Rattle.tam_read.proofs.TreeBuilt.{flat-branch}
 use Rattle.tam_read.proofs.ReadCodes.{body_lines, body-no-code}
 
@@ -213,7 +213,7 @@ few-vertices before (s ∷ ss) c none h =
 pub code-vertices : (d : CodeLines) → IsCleanCode d → vertices (body_lines d) ≤ 1024
 code-vertices d k =
     let none : until_code (d.head ∷ k.before) ≡ [] = until-here d.head k.before (ap is_code d.begins) in
-    let body = clean-front (d.head ∷ k.before) (body_lines d) k.rest k.clean.1 in
+    let body = clean-prefix (d.head ∷ k.before) (body_lines d) k.rest k.clean.1 in
     let zero_v : vertices (until_code (d.head ∷ k.before)) ≡ 0 = ap vertices none in
     let h = few-vertices (d.head ∷ k.before) (body_lines d) body (body-no-code d) (omega (arith, zero_v)) in
     omega (arith, h, zero_v)

@@ -82,9 +82,9 @@ none-until [] h = refl
 none-until (s ∷ ss) h = until-here s ss h
 
 -- where lines are clean, those in front are, and those behind
-pub clean-front : (before xs ys : List Sentence) → AreClean before (xs ++ ys) → AreClean before xs
-clean-front before [] ys c = tt
-clean-front before (x ∷ xs) ys c = (c.0, clean-front (x ∷ before) xs ys c.1)
+pub clean-prefix : (before xs ys : List Sentence) → AreClean before (xs ++ ys) → AreClean before xs
+clean-prefix before [] ys c = tt
+clean-prefix before (x ∷ xs) ys c = (c.0, clean-prefix (x ∷ before) xs ys c.1)
 
 -- and those behind
 pub clean-back : (before xs ys : List Sentence) → AreClean before (xs ++ ys) → AreClean (put_before before xs) ys
@@ -115,7 +115,7 @@ module _ (all : List Sentence) (codes : Entries) (agree : (t : List ℕ) → is_
       let both : AreClean (p.1 ∷ before) (sayings body ++ sayings tail) = subst (λ ss. AreClean (p.1 ∷ before) ss) (ap sayings cut.parts
       ∙ map-append (λ (q : ℕ × Sentence). q.1) body tail) c.1 in
       let differ : DifferBehind (sayings body) = names-differ (p.1 ∷ before) (sayings body)
-      (clean-front (p.1 ∷ before) (sayings body) (sayings tail) both) cut.body in
+      (clean-prefix (p.1 ∷ before) (sayings body) (sayings tail) both) cut.body in
       let nodes : (r : Role) (t : List ℕ) → is_made r (found t k.nodes) ≡ any_of (makes_named r t) (sayings body) =
       λ r t. ap (is_made r) (found-nodes t 0 (sayings body) []) ∙ nodes-found r t 0 (sayings body) differ in
       let none : until_code (p.1 ∷ before) ≡ [] = until-here p.1 before starts in

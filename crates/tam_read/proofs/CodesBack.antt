@@ -139,7 +139,7 @@ code-back g codes c are of ws h =
     let f = first-line ws (Bytes (bytes_of "code") ∷ Bytes c.name ∷ []) (body_lines ++ end_line ∷ []) lines in
     let s = split-lines f.others body_lines (end_line ∷ []) f.second in
     let l = first-line s.back end_line [] s.second in
-    let t = tree-back g codes c are (node-right codes c of) u.tree 0 0 u.stands u.nodes (omega (arith, u.many)) s.front s.first in
+    let t = tree-back g codes c are (node-right codes c of) u.tree 0 0 u.stands u.nodes (omega (arith, u.many)) s.prefix s.first in
     let head : Sentence = record { name = []; verb = verb.Code; rest = c.name ∷ [] } in
     record {
       lines = record { head = head; body = t.tree; close = alone verb.End; begins = refl; fits = t.fits; closes = refl };
@@ -169,7 +169,7 @@ codes-back g codes [] h ws e = record { lines = []; said = tt; words = no-lines 
 codes-back g codes (c ∷ cs) h ws e =
     let here = h c (inl refl) in
     let s = split-lines ws (code_lines g c) (flat_map (code_lines g) cs) (ap (same_lines ws) (sym (flat_map-cons (code_lines g) c cs)) ∙ e) in
-    let b = code-back g codes c here.0 here.1 s.front s.first in
+    let b = code-back g codes c here.0 here.1 s.prefix s.first in
     let r = codes-back g codes cs (λ z i. h z (inr i)) s.back s.second in
     record {
       lines = b.lines ∷ r.lines;

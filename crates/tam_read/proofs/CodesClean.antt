@@ -59,9 +59,9 @@ new-behind b [] ys h = h
 new-behind b (x ∷ xs) ys h = new-behind (x ∷ b) xs ys h.2
 
 -- and those in front
-new-front : (b xs ys : List Sentence) → AreNew b (xs ++ ys) → AreNew b xs
-new-front b [] ys h = tt
-new-front b (x ∷ xs) ys h = (h.0, h.1, new-front (x ∷ b) xs ys h.2)
+new-prefix : (b xs ys : List Sentence) → AreNew b (xs ++ ys) → AreNew b xs
+new-prefix b [] ys h = tt
+new-prefix b (x ∷ xs) ys h = (h.0, h.1, new-prefix (x ∷ b) xs ys h.2)
 
 -- ---- a tree
 
@@ -107,9 +107,9 @@ tree-clean (Branch s y t n e r) f before o os rest is bound new right clean =
     let own_next : vertices (owned s o).own ≡ 1 + vertices o.own = ap (λ v. v + vertices o.own) one in
     let whole : put_before before (flat (Branch s y t n e r)) ≡ put_before b5 (flat r) =
     put-both b1 (flat y) (t ∷ (flat n ++ (e ∷ flat r))) ∙ put-both b3 (flat n) (e ∷ flat r) in
-    let new_y = new-front b1 (flat y) (t ∷ (flat n ++ (e ∷ flat r))) new1.2 in
+    let new_y = new-prefix b1 (flat y) (t ∷ (flat n ++ (e ∷ flat r))) new1.2 in
     let new_t = new-behind b1 (flat y) (t ∷ (flat n ++ (e ∷ flat r))) new1.2 in
-    let new_n = new-front b3 (flat n) (e ∷ flat r) new_t.2 in
+    let new_n = new-prefix b3 (flat n) (e ∷ flat r) new_t.2 in
     let new_e = new-behind b3 (flat n) (e ∷ flat r) new_t.2 in
     let clean_r = tree-clean r f.5 b5 (owned s o) os rest open5 (subst (λ v. Bounded r (length os) v) (sym own_next) bound.4) new_e.2
     (λ z i. right z (in_e z (inr i))) (subst (λ b. AreClean b rest) whole clean) in
@@ -196,7 +196,7 @@ codes-clean-back before (d ∷ ds) e k new =
       later.0,
     ) in
     let body = tree-clean d.body d.fits b1 (just_opened ByCode) [] (d.close ∷ lines_of_codes ds) open1 here.bounded
-    (new-front b1 (flat d.body) (d.close ∷ []) fresh)
+    (new-prefix b1 (flat d.body) (d.close ∷ []) fresh)
     (λ z j. here.right z (inr (left-in z (flat d.body) (d.close ∷ []) j))) clean_close in
     let parts : body_lines d ++ lines_of_codes ds ≡ flat d.body ++ (d.close ∷ lines_of_codes ds) =
     append_assoc (flat d.body) (d.close ∷ []) (lines_of_codes ds) in

@@ -104,9 +104,9 @@ until-on : (s : Sentence) (ss : List Sentence) → is_code s.verb ≡ false → 
 until-on s ss e = rw (until_code, e) refl
 
 -- lines without a code, up to the next code
-pub until-front : (bs tail : List Sentence) → NoCode bs → until_code tail ≡ [] → until_code (bs ++ tail) ≡ bs
-until-front [] tail none e = e
-until-front (b ∷ bs) tail none e = until-on b (bs ++ tail) none.0 ∙ ap (λ ss. b ∷ ss) (until-front bs tail none.1 e)
+pub until-prefix : (bs tail : List Sentence) → NoCode bs → until_code tail ≡ [] → until_code (bs ++ tail) ≡ bs
+until-prefix [] tail none e = e
+until-prefix (b ∷ bs) tail none e = until-on b (bs ++ tail) none.0 ∙ ap (λ ss. b ∷ ss) (until-prefix bs tail none.1 e)
 
 module _ (all : List Sentence) (k : Known) (whole : List Sentence) (nodes : (r : Role) (t : List ℕ)
     → is_made r (found t k.nodes) ≡ any_of (makes_named r t) whole)
@@ -119,7 +119,7 @@ module _ (all : List Sentence) (k : Known) (whole : List Sentence) (nodes : (r :
   body-faults before (p ∷ bs) tail none e h =
       let context = until_code before ++ (p.1 ∷ until_code (sayings (bs ++ tail))) in
       let behind : until_code (sayings (bs ++ tail)) ≡ sayings bs = ap until_code (map-append (λ (q : ℕ × Sentence). q.1) bs tail)
-      ∙ until-front (sayings bs) (sayings tail) none.1 e in
+      ∙ until-prefix (sayings bs) (sayings tail) none.1 e in
       let is : (f : Sentence → Bool) → any_of f context ≡ any_of f whole = λ f. ap (λ ss. any_of f (until_code before ++ (p.1 ∷ ss))) behind ∙ h f in
       let here : faults_of_names all context p.1 ≡ faults_known k p.1 = faults-alike k all context p.1 (λ r t. nodes r t ∙ sym (is (makes_named r t))) codes in
       let next : (f : Sentence → Bool) → any_of f (until_code (p.1 ∷ before) ++ sayings bs) ≡ any_of f whole =

@@ -145,12 +145,12 @@ all-names-differ (s ∷ ss) d few =
     (all-names-differ ss d.1 (λ z i. few z (inr i)))
 
 -- fewer lines differ too
-pub differ-front : (xs ys : List Sentence) → DifferBehind (xs ++ ys) → DifferBehind xs
-differ-front [] ys d = tt
-differ-front (x ∷ xs) ys d = (
+pub differ-prefix : (xs ys : List Sentence) → DifferBehind (xs ++ ys) → DifferBehind xs
+differ-prefix [] ys d = tt
+differ-prefix (x ∷ xs) ys d = (
   λ n p q. d.0 n p (subst (λ ns. In n ns) (sym (flat_map-append names_made xs ys))
       (left-in n (flat_map names_made xs) (flat_map names_made ys) q)),
-  differ-front xs ys d.1,
+  differ-prefix xs ys d.1,
 )
 
 -- the names of the nodes of a code differ
@@ -160,7 +160,7 @@ code-names-differ ds d good differ =
     let q = known_of (entries_of ds) d in
     let here : (s : Sentence) → In s (flat d.body) → IsGoodLine q s = λ s i. good.lines s (left-in s (flat d.body) (d.close ∷ []) i) in
     ap (all_differ same_bytes) (tree-names q d.body 0 1 d.fits here)
-    ∙ all-names-differ (flat d.body) (differ-front (flat d.body) (d.close ∷ []) differ) (λ s i. few-names s (here s i).form)
+    ∙ all-names-differ (flat d.body) (differ-prefix (flat d.body) (d.close ∷ []) differ) (λ s i. few-names s (here s i).form)
 
 -- ---- the names of codes
 

@@ -16,7 +16,7 @@ use Rattle.tam_read.specs.Parts.{or_nameless}
 use Rattle.tam_read.proofs.Nested.{flat}
 use Rattle.tam_read.proofs.Codes.{CodeLines, lines_of_code, lines_of_codes}
 use Rattle.tam_read.proofs.Clean.{clean-parts, names-differ}
-use Rattle.tam_read.proofs.CodeByCode.{sayings-said_from, clean-front}
+use Rattle.tam_read.proofs.CodeByCode.{sayings-said_from, clean-prefix}
 use Rattle.tam_read.proofs.BlocksInOrder.{nodes-ordered, blocks-ordered}
 use Rattle.tam_read.proofs.ReadCodes.{body_lines, body-no-code, code_of_lines, code-of-tree, known_of, codes_read}
 use Rattle.tam_read.proofs.Worded.{words_said}
@@ -75,7 +75,7 @@ module _ (bytes : List ℕ) (none : faults bytes ≡ []) where
         named = head-named d good.head (names-right d.head (clean-parts head.0 d.head head.1).names).1;
         nodes_named = nodes-named ds d good;
         nodes_differ = code-names-differ ds d good (names-differ (d.head ∷ k.before) (body_lines d)
-            (clean-front (d.head ∷ k.before) (body_lines d) k.rest k.clean.1) (body-no-code d));
+            (clean-prefix (d.head ∷ k.before) (body_lines d) k.rest k.clean.1) (body-no-code d));
       }
 
   -- with blocks no larger than a text's

@@ -38,10 +38,10 @@ part-is codes line body k name b ls known named is lines =
     ap (λ n. make n b ls) named ∙ ap (λ c. make (or_nameless (code_begun (saying line))) c ls) whole
     ∙ ap (make (or_nameless (code_begun (saying line))) (built (known_in codes (map numbered body)) nothing_built (sayings (map numbered body)))) lines
 
--- the lines up to the next code are a front of the lines
-pub front-is : (ls : List Line) → map numbered (take (length (body_of (map numbered ls))) ls) ≡ body_of (map numbered ls)
-front-is [] = refl
-front-is (l ∷ ls) = go (is_code l.verb) refl (front-is ls)
+-- the lines up to the next code are a prefix of the lines
+pub prefix-is : (ls : List Line) → map numbered (take (length (body_of (map numbered ls))) ls) ≡ body_of (map numbered ls)
+prefix-is [] = refl
+prefix-is (l ∷ ls) = go (is_code l.verb) refl (prefix-is ls)
   where
     go : (t : Bool) → is_code l.verb ≡ t → map numbered (take (length (body_of (map numbered ls))) ls) ≡ body_of (map numbered ls)
         → map numbered (take (length (body_of (map numbered (l ∷ ls)))) (l ∷ ls)) ≡ body_of (map numbered (l ∷ ls))

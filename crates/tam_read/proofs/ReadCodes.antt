@@ -15,7 +15,7 @@ use Rattle.tam_read.specs.Parts.{Numbered, Piece, body_of, pieces, known_in, cod
 use Rattle.tam_read.proofs.Nested.{Tree, Done, Plain, Branch, flat, Fits, is_plain_verb, Nests}
 use Rattle.tam_read.proofs.Codes.{CodeLines, lines_of_code, lines_of_codes, InCodes, in_codes, nests}
 use Rattle.tam_read.proofs.Clean.{AreClean, NoCode, clean-lines}
-use Rattle.tam_read.proofs.Contexts.{until-here, until-front}
+use Rattle.tam_read.proofs.Contexts.{until-here, until-prefix}
 use Rattle.tam_read.proofs.CodeByCode.{sayings-said_from}
 use Rattle.tam_read.proofs.TreeBuilt.{tree_nodes, tree_owners, code-built}
 use Rattle.tam_read.proofs.BlocksInOrder.{IsOfTree}
@@ -96,7 +96,7 @@ pieces-of-codes [] = refl
 pieces-of-codes (d ∷ ds) =
     let so : is_code d.head.verb ≡ true = ap is_code d.begins in
     rw (plain_pieces, so)
-    (ap₂ (λ b qs. (d.head, b) ∷ qs) (until-front (body_lines d) (lines_of_codes ds) (body-no-code d) (none-before-codes ds))
+    (ap₂ (λ b qs. (d.head, b) ∷ qs) (until-prefix (body_lines d) (lines_of_codes ds) (body-no-code d) (none-before-codes ds))
     (skip-no-code (body_lines d) (lines_of_codes ds) (body-no-code d) ∙ pieces-of-codes ds))
 
 -- ---- what is read

@@ -39,23 +39,23 @@ SaysAll g c (Branch s y t n e r) x =
 
 -- lines that spell lines one behind the other
 pub record AreSplit (ws : List (List (List ℕ))) (ls ms : List Line) : Type 0 where
-  pub front : List (List (List ℕ))
+  pub prefix : List (List (List ℕ))
   pub back : List (List (List ℕ))
-  pub parts : ws ≡ front ++ back
-  pub first : same_lines front ls ≡ true
+  pub parts : ws ≡ prefix ++ back
+  pub first : same_lines prefix ls ≡ true
   pub second : same_lines back ms ≡ true
 
 pub split-lines : (ws : List (List (List ℕ))) (ls ms : List Line) → same_lines ws (ls ++ ms) ≡ true → AreSplit ws ls ms
-split-lines ws [] ms h = record { front = []; back = ws; parts = refl; first = refl; second = h }
+split-lines ws [] ms h = record { prefix = []; back = ws; parts = refl; first = refl; second = h }
 split-lines [] (l ∷ ls) ms h = absurd (true≢false (sym h))
 split-lines (w ∷ ws) (l ∷ ls) ms h =
     let p = both-true (same_line w l) (same_lines ws (ls ++ ms)) h in
     let i = split-lines ws ls ms p.1 in
     record {
-      front = w ∷ i.front;
+      prefix = w ∷ i.prefix;
       back = i.back;
       parts = ap (λ vs. w ∷ vs) i.parts;
-      first = both-hold (same_line w l) (same_lines i.front ls) p.0 i.first;
+      first = both-hold (same_line w l) (same_lines i.prefix ls) p.0 i.first;
       second = i.second;
     }
 
@@ -157,8 +157,8 @@ module _ (g : Graph) (codes : ℕ) (c : Code) (are : AreNamed g codes c) (right 
       let turn = first-line one.back (visit_line g c (AtElse y)) (show vn ++ (end_line ∷ show vr)) one.second in
       let two = split-lines turn.others (show vn) (end_line ∷ show vr) turn.second in
       let ends = first-line two.back end_line (show vr) two.second in
-      let by = tree-back ys a (suc x) s.2 i.1 (omega arith) one.front one.first in
-      let bn = tree-back ns d (suc x + size (shape_of ys)) s.3 i.2 (omega arith) two.front two.first in
+      let by = tree-back ys a (suc x) s.2 i.1 (omega arith) one.prefix one.first in
+      let bn = tree-back ns d (suc x + size (shape_of ys)) s.3 i.2 (omega arith) two.prefix two.first in
       let br = tree-back r b (suc x + size (shape_of ys) + size (shape_of ns)) s.4 i.3 (omega arith) ends.others ends.second in
       let kind_is : k.says.node.kind ≡ kind.Cond p a d = sym (ap (kind_at c) i.0 ∙ ap or_kind k.says.there) ∙ s.1 in
       let t = alone verb.Else in

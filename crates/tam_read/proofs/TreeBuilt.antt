@@ -104,12 +104,12 @@ plain-by q b s verb.End e = absurd cc
 plain-by q b s v e = refl
 
 -- an element in a row is changed at its place
-pub changed-there : {X : Type 0} (f : X → X) (front : List X) (x : X) (back : List X) (n : ℕ) → length front ≡ n
-    → changed_at n f (front ++ x ∷ back) ≡ front ++ f x ∷ back
+pub changed-there : {X : Type 0} (f : X → X) (prefix : List X) (x : X) (back : List X) (n : ℕ) → length prefix ≡ n
+    → changed_at n f (prefix ++ x ∷ back) ≡ prefix ++ f x ∷ back
 changed-there f [] x back zero e = refl
 changed-there f [] x back (suc n) e = absurd (omega arith)
-changed-there f (y ∷ front) x back zero e = absurd (omega arith)
-changed-there f (y ∷ front) x back (suc n) e = ap (λ l. y ∷ l) (changed-there f front x back n (omega arith))
+changed-there f (y ∷ prefix) x back zero e = absurd (omega arith)
+changed-there f (y ∷ prefix) x back (suc n) e = ap (λ l. y ∷ l) (changed-there f prefix x back n (omega arith))
 
 -- a list with one more is longer by one
 one-longer : {X : Type 0} (xs : List X) (x : X) (n : ℕ) → length xs ≡ n → length (xs ++ x ∷ []) ≡ suc n
@@ -144,12 +144,12 @@ else-built : (q : Known) (s t : Sentence) (ns ys : List Node) (os : List (Option
     → built_behind q (a_built ((ns ++ node_cond q b k 0 s ∷ []) ++ ys) os (a_branch k x ∷ a_branch b c ∷ w)) t
     ≡ a_built ((ns ++ node_cond q b k j s ∷ []) ++ ys) (os ++ Some x ∷ []) (a_branch j x ∷ a_branch b c ∷ w)
 else-built q s t ns ys os b c k w x j e lx lj =
-    let front = ns ++ node_cond q b k 0 s ∷ [] in
-    let there : changed_at x (with_else (length os)) (front ++ ys) ≡ (ns ++ node_cond q b k (length os) s ∷ []) ++ ys =
+    let prefix = ns ++ node_cond q b k 0 s ∷ [] in
+    let there : changed_at x (with_else (length os)) (prefix ++ ys) ≡ (ns ++ node_cond q b k (length os) s ∷ []) ++ ys =
     ap (changed_at x (with_else (length os))) (append_assoc ns (node_cond q b k 0 s ∷ []) ys)
     ∙ changed-there (with_else (length os)) ns (node_cond q b k 0 s) ys x lx
     ∙ sym (append_assoc ns (node_cond q b k (length os) s ∷ []) ys) in
-    ap (built_by q (a_built (front ++ ys) os (a_branch k x ∷ a_branch b c ∷ w)) t) e
+    ap (built_by q (a_built (prefix ++ ys) os (a_branch k x ∷ a_branch b c ∷ w)) t) e
     ∙ ap (λ z. a_built z (os ++ Some x ∷ []) (a_branch (length os) x ∷ a_branch b c ∷ w)) there
     ∙ ap (λ i. a_built ((ns ++ node_cond q b k i s ∷ []) ++ ys) (os ++ Some x ∷ []) (a_branch i x ∷ a_branch b c ∷ w)) lj
 

@@ -31,48 +31,49 @@ Holds c q (Branch s y t n e r) b x k =
     × Holds c q r b (suc x + size (shape y) + size (shape n)) (suc (suc k + opened (shape y)) + opened (shape n))
 
 -- a node behind others stands at their number
-at_front : (front : List Node) (n : Node) (back : List Node) → slice_get (front ++ n ∷ back) (length front) ≡ Some n
-at_front [] n back = refl
-at_front (f ∷ fs) n back = at_front fs n back
+at_prefix : (prefix : List Node) (n : Node) (back : List Node) → slice_get (prefix ++ n ∷ back) (length prefix) ≡ Some n
+at_prefix [] n back = refl
+at_prefix (f ∷ fs) n back = at_prefix fs n back
 
 -- so does one in a row of nodes
-node_at : (c : Code) (x : ℕ) (front : List Node) (n : Node) (back : List Node) → c.nodes ≡ front ++ n ∷ back → length front ≡ x → slice_get c.nodes x ≡ Some n
-node_at c x front n back e l = ap (λ ns. slice_get ns x) e ∙ ap (slice_get (front ++ n ∷ back)) (sym l) ∙ at_front front n back
+node_at : (c : Code) (x : ℕ) (prefix : List Node) (n : Node) (back : List Node) → c.nodes ≡ prefix ++ n ∷ back → length prefix ≡ x
+    → slice_get c.nodes x ≡ Some n
+node_at c x prefix n back e l = ap (λ ns. slice_get ns x) e ∙ ap (slice_get (prefix ++ n ∷ back)) (sym l) ∙ at_prefix prefix n back
 
 -- a row with one more is longer by one
-longer : (front : List Node) (n : Node) (x : ℕ) → length front ≡ x → length (front ++ n ∷ []) ≡ suc x
-longer front n x l = length-append front (n ∷ []) ∙ omega arith
+longer : (prefix : List Node) (n : Node) (x : ℕ) → length prefix ≡ x → length (prefix ++ n ∷ []) ≡ suc x
+longer prefix n x l = length-append prefix (n ∷ []) ∙ omega arith
 
 -- a code whose list has the tree's nodes in a row has them at their places
-pub holds : (q : Known) (c : Code) (t : Tree) (b x k : ℕ) (front back : List Node) → c.nodes ≡ front ++ (tree_nodes q t b k ++ back) → length front ≡ x
+pub holds : (q : Known) (c : Code) (t : Tree) (b x k : ℕ) (prefix back : List Node) → c.nodes ≡ prefix ++ (tree_nodes q t b k ++ back) → length prefix ≡ x
     → Holds c q t b x k
-holds q c Done b x k front back e l = tt
-holds q c (Plain s r) b x k front back e l =
+holds q c Done b x k prefix back e l = tt
+holds q c (Plain s r) b x k prefix back e l =
     let n = node_plain q b s in (
-      node_at c x front n (tree_nodes q r b k ++ back) e l,
-      holds q c r b (suc x) k (front ++ n ∷ []) back (e
-          ∙ sym (append_assoc front (n ∷ []) (tree_nodes q r b k ++ back))) (longer front n x l),
+      node_at c x prefix n (tree_nodes q r b k ++ back) e l,
+      holds q c r b (suc x) k (prefix ++ n ∷ []) back (e
+          ∙ sym (append_assoc prefix (n ∷ []) (tree_nodes q r b k ++ back))) (longer prefix n x l),
     )
-holds q c (Branch s y t n e r) b x k front back same l =
+holds q c (Branch s y t n e r) b x k prefix back same l =
     let j = suc k + opened (shape y) in
     let u = suc j + opened (shape n) in
     let node = node_cond q b k j s in
     let ys = tree_nodes q y k (suc k) in
     let ns = tree_nodes q n j (suc j) in
     let rs = tree_nodes q r b u in
-    let f1 : List Node = front ++ node ∷ [] in
+    let f1 : List Node = prefix ++ node ∷ [] in
     let f2 : List Node = f1 ++ ys in
     let f3 : List Node = f2 ++ ns in
-    let l1 : length f1 ≡ suc x = longer front node x l in
+    let l1 : length f1 ≡ suc x = longer prefix node x l in
     let l2 : length f2 ≡ suc x + size (shape y) = length-append f1 ys ∙ ap (λ z. z + length ys) l1 ∙ ap (λ z. suc x + z) (length-tree_nodes q y k (suc k)) in
     let l3 : length f3 ≡ suc x + size (shape y) + size (shape n) = length-append f2 ns ∙ ap (λ z. z + length ns) l2
     ∙ ap (λ z. suc x + size (shape y) + z) (length-tree_nodes q n j (suc j)) in
     let e0 : (ys ++ (ns ++ rs)) ++ back ≡ ys ++ (ns ++ (rs ++ back)) = append_assoc ys (ns ++ rs) back ∙ ap (λ z. ys ++ z) (append_assoc ns rs back) in
-    let e1 : c.nodes ≡ f1 ++ (ys ++ (ns ++ (rs ++ back))) = same ∙ ap (λ z. front ++ node ∷ z) e0
-    ∙ sym (append_assoc front (node ∷ []) (ys ++ (ns ++ (rs ++ back)))) in
+    let e1 : c.nodes ≡ f1 ++ (ys ++ (ns ++ (rs ++ back))) = same ∙ ap (λ z. prefix ++ node ∷ z) e0
+    ∙ sym (append_assoc prefix (node ∷ []) (ys ++ (ns ++ (rs ++ back)))) in
     let e2 : c.nodes ≡ f2 ++ (ns ++ (rs ++ back)) = e1 ∙ sym (append_assoc f1 ys (ns ++ (rs ++ back))) in
     let e3 : c.nodes ≡ f3 ++ (rs ++ back) = e2 ∙ sym (append_assoc f2 ns (rs ++ back)) in (
-      node_at c x front node ((ys ++ (ns ++ rs)) ++ back) same l,
+      node_at c x prefix node ((ys ++ (ns ++ rs)) ++ back) same l,
       holds q c y k (suc x) (suc k) f1 (ns ++ (rs ++ back)) e1 l1,
       holds q c n j (suc x + size (shape y)) (suc j) f2 (rs ++ back) e2 l2,
       holds q c r b (suc x + size (shape y) + size (shape n)) u f3 back e3 l3,

@@ -176,7 +176,7 @@ opened-openings c b (Branch x p y n ys ns r) s =
     ∙ ap₂ (λ a d. a ++ d) middle (opened-openings c b r s.4)
     ∙ append_assoc (openings ys) ((n, Some x) ∷ openings ns) (openings r))
 
--- lists of one length that are the same front and back
+-- lists of one length that are the same prefix and back
 same-parts : {X : Type 0} (xs ys zs ws : List X) → length xs ≡ length zs → xs ++ ys ≡ zs ++ ws → (xs ≡ zs) × (ys ≡ ws)
 same-parts [] ys [] ws l e = (refl, e)
 same-parts [] ys (z ∷ zs) ws l e = absurd (omega arith)

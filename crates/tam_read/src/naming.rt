@@ -2,7 +2,8 @@
 ghost use Rattle.std.specs.Prelude.{◌≡◌, ◌∷◌, [], take, option_to_list};
 ghost use Rattle.tam_read.specs.Sentences.{roles_of, same_role, each_token};
 ghost use Rattle.tam_read.specs.Tables.{table, found};
-ghost use Rattle.tam_read.specs.Naming.{is_made, is_node_found, is_code_found, faults_known, number_for, first_number, second_number, third_number, or_number, or_zero};
+ghost use Rattle.tam_read.specs.Naming.{is_made, is_node_found, is_code_found, faults_known, number_for, first_number, second_number, third_number};
+ghost use Rattle.tam_read.specs.Naming.{or_number, or_zero};
 ghost use Rattle.tam_read.specs.KnownView.{known};
 ghost use Rattle.tam_read.specs.LineView.{saying};
 ghost use Rattle.tam_read.specs.SaidView.{texts};

@@ -62,7 +62,8 @@ one-more n j i l = go (i == j) refl
     go : (t : Bool) → (i == j) ≡ t → (bit_at (bit_or n (1 * 2 ^ j % 2 ^ 64)) i == 1) ≡ ((bit_at n i == 1) || (i == j))
     go true p =
         let e : i ≡ j = number-eq i j p in
-        let one : bit_at (bit_or n (1 * 2 ^ j % 2 ^ 64)) i ≡ 1 = subst (λ y. bit_at (bit_or n (1 * 2 ^ j % 2 ^ 64)) y ≡ 1) (sym e) (bit_at_set_same w64 n j l) in
+        let one : bit_at (bit_or n (1 * 2 ^ j % 2 ^ 64)) i ≡ 1 = subst (λ y. bit_at (bit_or n (1 * 2 ^ j % 2 ^ 64)) y ≡ 1) (sym e)
+        (bit_at_set_same w64 n j l) in
         rw one (sym (rw p (or-true (bit_at n i == 1))))
       where
         or-true : (b : Bool) → (b || true) ≡ true
@@ -128,7 +129,8 @@ bits-within a b h e =
     in-all (has (places_where (has_bit b))) (places_where (has_bit a))
     (λ x i. let l : x < 512 = in-where (has_bit a) x i in
     has-where (has_bit b) x l
-    ∙ within-bit (get_or a (x / 64) 0) (get_or b (x / 64) 0) (x % 64) (h (x / 64) (omega arith)) (omega arith) (e (x / 64) (omega arith)) (in-passes (has_bit a) x i))
+    ∙ within-bit (get_or a (x / 64) 0) (get_or b (x / 64) 0) (x % 64) (h (x / 64) (omega arith)) (omega arith) (e (x / 64) (omega arith))
+    (in-passes (has_bit a) x i))
 
 -- and the other way round
 within-bits : (a b : List ℕ) (k : ℕ) → k < 8 → get_or a k 0 < 2 ^ 64 → get_or b k 0 < 2 ^ 64
@@ -166,7 +168,8 @@ pub bits-not_within : (a b : List ℕ) (k : ℕ) → k < 8 → get_or a k 0 < 2 
     → bit_and (get_or a k 0) (bit_not w64 (get_or b k 0)) ≢ 0 → is_within (places_where (has_bit a)) (places_where (has_bit b)) ≡ false
 bits-not_within a b k r g h d = go (is_within (places_where (has_bit a)) (places_where (has_bit b))) refl
   where
-    go : (t : Bool) → is_within (places_where (has_bit a)) (places_where (has_bit b)) ≡ t → is_within (places_where (has_bit a)) (places_where (has_bit b)) ≡ false
+    go : (t : Bool) → is_within (places_where (has_bit a)) (places_where (has_bit b)) ≡ t
+        → is_within (places_where (has_bit a)) (places_where (has_bit b)) ≡ false
     go true p = absurd (d (within-bits a b k r g h p))
     go false p = p
 

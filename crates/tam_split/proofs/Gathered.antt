@@ -149,9 +149,11 @@ takers-edges c vs ts place u s giver = go vs ts 0 s
     go (v ∷ vs) (t ∷ ts) n s = one (has (taken_by c v) u.node) refl (go vs ts (n + 1) s.1)
       where
         one : (b : Bool) → has (taken_by c v) u.node ≡ b
-            → map {B = ℕ × ℕ} (λ (v : ℕ × Option (List ℕ)). (place, v.0)) (filter (λ (v : ℕ × Option (List ℕ)). has (or_nothing v.1) u.node) (placed_from (n + 1) ts))
+            → map {B = ℕ × ℕ} (λ (v : ℕ × Option (List ℕ)). (place, v.0))
+            (filter (λ (v : ℕ × Option (List ℕ)). has (or_nothing v.1) u.node) (placed_from (n + 1) ts))
             ≡ edges_from c (placed_from (n + 1) vs) (place, u)
-            → map {B = ℕ × ℕ} (λ (v : ℕ × Option (List ℕ)). (place, v.0)) (filter (λ (v : ℕ × Option (List ℕ)). has (or_nothing v.1) u.node) (placed_from n (t ∷ ts)))
+            → map {B = ℕ × ℕ} (λ (v : ℕ × Option (List ℕ)). (place, v.0))
+            (filter (λ (v : ℕ × Option (List ℕ)). has (or_nothing v.1) u.node) (placed_from n (t ∷ ts)))
             ≡ edges_from c (placed_from n (v ∷ vs)) (place, u)
         one true p i = rw (s.0 u.node ∙ p, feeds, giver, p) (ap (λ es. (place, n) ∷ es) i)
         one false p i = rw (s.0 u.node ∙ p, feeds, giver, p) i

@@ -65,17 +65,17 @@ module _ (ps : Parts) (p : List ℕ) (ms : Parts) (q : List ℕ) (qs : Parts) wh
   later = length ps + suc (length ms)
 
   -- the classes in front of the later one
-  front : (r : List ℕ) → ps ++ r ∷ (ms ++ q ∷ qs) ≡ (ps ++ r ∷ ms) ++ q ∷ qs
-  front r = sym (append_assoc ps (r ∷ ms) (q ∷ qs))
+  prefix : (r : List ℕ) → ps ++ r ∷ (ms ++ q ∷ qs) ≡ (ps ++ r ∷ ms) ++ q ∷ qs
+  prefix r = sym (append_assoc ps (r ∷ ms) (q ∷ qs))
 
   -- how many there are
-  length-front : (r : List ℕ) → length (ps ++ r ∷ ms) ≡ later
-  length-front r = length-append ps (r ∷ ms)
+  length-prefix : (r : List ℕ) → length (ps ++ r ∷ ms) ≡ later
+  length-prefix r = length-append ps (r ∷ ms)
 
   -- the later class
   pub class_at-later : class_at apart later ≡ q
   class_at-later =
-      subst (λ n. class_at apart n ≡ q) (length-front p) (subst (λ rs. class_at rs (length (ps ++ p ∷ ms)) ≡ q) (sym (front p))
+      subst (λ n. class_at apart n ≡ q) (length-prefix p) (subst (λ rs. class_at rs (length (ps ++ p ∷ ms)) ≡ q) (sym (prefix p))
       (class_at-behind (ps ++ p ∷ ms) q qs))
 
   -- what the merge leaves
@@ -84,8 +84,8 @@ module _ (ps : Parts) (p : List ℕ) (ms : Parts) (q : List ℕ) (qs : Parts) wh
       let changed : changed_at (length ps) (λ r. merge_rising r (class_at apart later)) apart ≡ ps ++ merge_rising p q ∷ (ms ++ q ∷ qs) =
       changed-behind (λ r. merge_rising r (class_at apart later)) ps p (ms ++ q ∷ qs) ∙ ap (λ r. ps ++ merge_rising p r ∷ (ms ++ q ∷ qs)) class_at-later in
       let out : without_place later (ps ++ merge_rising p q ∷ (ms ++ q ∷ qs)) ≡ united =
-      subst (λ n. without_place n (ps ++ merge_rising p q ∷ (ms ++ q ∷ qs)) ≡ united) (length-front (merge_rising p q))
-      (ap (λ rs. without_place (length (ps ++ merge_rising p q ∷ ms)) rs) (front (merge_rising p q))
+      subst (λ n. without_place n (ps ++ merge_rising p q ∷ (ms ++ q ∷ qs)) ≡ united) (length-prefix (merge_rising p q))
+      (ap (λ rs. without_place (length (ps ++ merge_rising p q ∷ ms)) rs) (prefix (merge_rising p q))
       ∙ (without-behind (ps ++ merge_rising p q ∷ ms) q qs ∙ append_assoc ps (merge_rising p q ∷ ms) qs)) in
       ap (λ rs. without_place later rs) changed ∙ out
 

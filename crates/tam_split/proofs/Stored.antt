@@ -122,11 +122,11 @@ module _ (ps : Parts) (p : List ℕ) (ms : Parts) (q : List ℕ) (qs : Parts) wh
       let now : take a w ++ (map (λ n. n + by) (take (b - a) (drop a w)) ++ drop b w) ≡ (xs ++ moved) ++ y ∷ ys =
       ap₂ (λ l r. l ++ r) one (ap₂ (λ l r. map (λ n. n + by) l ++ r) two three) ∙ sym (append_assoc xs moved (y ∷ ys)) in
       let far : length (xs ++ moved) ≡ b = omega (arith, length-append xs moved, length-map ms (λ n. n + by)) in
-      let front : take b ((xs ++ moved) ++ y ∷ ys) ≡ xs ++ moved = take_at (xs ++ moved) (y ∷ ys) b far in
+      let prefix : take b ((xs ++ moved) ++ y ∷ ys) ≡ xs ++ moved = take_at (xs ++ moved) (y ∷ ys) b far in
       let farther : length ((xs ++ moved) ++ y ∷ []) ≡ suc b = omega (arith, length-append (xs ++ moved) (y ∷ [])) in
       let last : drop (suc b) ((xs ++ moved) ++ y ∷ ys) ≡ ys =
       ap (drop (suc b)) (sym (append_assoc (xs ++ moved) (y ∷ []) ys)) ∙ drop_at ((xs ++ moved) ++ y ∷ []) ys (suc b) farther in
-      ap (λ l. take b l ++ drop (suc b) l) now ∙ (ap₂ (λ l r. l ++ r) front last ∙ append_assoc xs moved ys)
+      ap (λ l. take b l ++ drop (suc b) l) now ∙ (ap₂ (λ l r. l ++ r) prefix last ∙ append_assoc xs moved ys)
 
   -- of the classes
   ends-united : moved_ends (ends_from 0 (apart ps p ms q qs)) (length ps) (later ps p ms q qs) (length q) ≡ ends_from 0 (united ps p ms q qs)
@@ -156,15 +156,15 @@ module _ (ps : Parts) (p : List ℕ) (ms : Parts) (q : List ℕ) (qs : Parts) wh
   bound_of n x = get_or (x ∷ ends_from 0 (apart ps p ms q qs)) n 0
 
   -- the classes in front of the later one
-  front : apart ps p ms q qs ≡ (ps ++ p ∷ ms) ++ q ∷ qs
-  front = sym (append_assoc ps (p ∷ ms) (q ∷ qs))
+  prefix : apart ps p ms q qs ≡ (ps ++ p ∷ ms) ++ q ∷ qs
+  prefix = sym (append_assoc ps (p ∷ ms) (q ∷ qs))
 
-  length-front : length (ps ++ p ∷ ms) ≡ later ps p ms q qs
-  length-front = length-append ps (p ∷ ms)
+  length-prefix : length (ps ++ p ∷ ms) ≡ later ps p ms q qs
+  length-prefix = length-append ps (p ∷ ms)
 
   -- how long they are
-  concat-front : length (concat (ps ++ p ∷ ms)) ≡ length (concat ps) + (length p + length (concat ms))
-  concat-front = ap length (concat-append ps (p ∷ ms)) ∙ (length-append (concat ps) (p ++ concat ms) ∙ ap (λ n. length (concat ps) + n)
+  concat-prefix : length (concat (ps ++ p ∷ ms)) ≡ length (concat ps) + (length p + length (concat ms))
+  concat-prefix = ap length (concat-append ps (p ∷ ms)) ∙ (length-append (concat ps) (p ++ concat ms) ∙ ap (λ n. length (concat ps) + n)
       (length-append p (concat ms)))
 
   module _ (from middle start end : ℕ) (f : from ≡ get_or (0 ∷ ends_from 0 (apart ps p ms q qs)) (length ps) 0)
@@ -178,15 +178,15 @@ module _ (ps : Parts) (p : List ℕ) (ms : Parts) (q : List ℕ) (qs : Parts) wh
 
     start-is : start ≡ length (concat ps) + (length p + length (concat ms))
     start-is =
-        let x = s ∙ (ap (λ n. get_or (0 ∷ ends_from 0 (apart ps p ms q qs)) n 0) (sym length-front)
-        ∙ (ap (λ rs. get_or (0 ∷ ends_from 0 rs) (length (ps ++ p ∷ ms)) 0) front ∙ start-behind 0 (ps ++ p ∷ ms) (q ∷ qs))) in
-        let y = concat-front in omega arith
+        let x = s ∙ (ap (λ n. get_or (0 ∷ ends_from 0 (apart ps p ms q qs)) n 0) (sym length-prefix)
+        ∙ (ap (λ rs. get_or (0 ∷ ends_from 0 rs) (length (ps ++ p ∷ ms)) 0) prefix ∙ start-behind 0 (ps ++ p ∷ ms) (q ∷ qs))) in
+        let y = concat-prefix in omega arith
 
     end-is : end ≡ length (concat ps) + (length p + length (concat ms)) + length q
     end-is =
-        let x = e ∙ (ap (λ n. get_or (ends_from 0 (apart ps p ms q qs)) n 0) (sym length-front)
-        ∙ (ap (λ rs. get_or (ends_from 0 rs) (length (ps ++ p ∷ ms)) 0) front ∙ end-behind 0 (ps ++ p ∷ ms) q qs)) in
-        let y = concat-front in omega arith
+        let x = e ∙ (ap (λ n. get_or (ends_from 0 (apart ps p ms q qs)) n 0) (sym length-prefix)
+        ∙ (ap (λ rs. get_or (ends_from 0 rs) (length (ps ++ p ∷ ms)) 0) prefix ∙ end-behind 0 (ps ++ p ∷ ms) q qs)) in
+        let y = concat-prefix in omega arith
 
     -- the list in which all are stored
     abbrev w : List ℕ
@@ -384,7 +384,7 @@ removed-is ds ends moved es n a b by i k l h m r =
     let whole : take a ds ++ (moved ++ drop (b - a) (drop a ds)) ≡ take a ends ++ (map (λ e. e + by) (take (b - a) (drop a ends)) ++ drop b ends) =
     ap₂ (λ x y. x ++ y) (ap (take a) i) (ap₂ (λ x y. x ++ y) here far) in
     let w = take a ends ++ (map (λ e. e + by) (take (b - a) (drop a ends)) ++ drop b ends) in
-    let front : length (take a ends) ≡ a = length-take-le a ends (omega arith) in
+    let prefix : length (take a ends) ≡ a = length-take-le a ends (omega arith) in
     let part : length (take (b - a) (drop a ends)) ≡ b - a = length-take-le (b - a) (drop a ends) (omega (arith, length-drop a ends)) in
     let long : length w ≡ n =
     omega (

@@ -1,5 +1,6 @@
 // The check of thread code, line by line.
-ghost use Rattle.std.specs.Prelude.{◌≡◌, ◌+◌, ◌^◌, ◌<◌, ◌≤◌, ◌∷◌, [], None, Some, true, ◌||◌, nat_lt, length, take, map, flat_map, OnOk, IfOk, IfErr, option_to_list};
+ghost use Rattle.std.specs.Prelude.{◌≡◌, ◌+◌, ◌^◌, ◌<◌, ◌≤◌, ◌∷◌, [], None, Some, true, ◌||◌, nat_lt, length, take, map, flat_map, OnOk, IfOk, IfErr};
+ghost use Rattle.std.specs.Prelude.{option_to_list};
 ghost use Rattle.tam_word.specs.Lists.{where_so};
 ghost use Rattle.tl0_code.specs.declared.bad_cause.BadCause.TheVariants.{Frame};
 ghost use Rattle.tl0_code.specs.ThreadCode.{IsCodeText, code_text, numbers_of};

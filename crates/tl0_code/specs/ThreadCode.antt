@@ -1,6 +1,7 @@
 -- The code of threads as lists.
 -- The rule in words: docs/THREADS.md, "Thread code".
-use Rattle.std.specs.Prelude.{ℕ, ◌^◌, ◌≡◌, ◌≤◌, ◌<◌, Bool, true, false, nat_lt, List, [], ◌∷◌, ◌++◌, map, flat_map, filter, Option, Some, None, slice_get, length}
+use Rattle.std.specs.Prelude.{ℕ, ◌^◌, ◌≡◌, ◌≤◌, ◌<◌, Bool, true, false, nat_lt, List, [], ◌∷◌, ◌++◌, map, flat_map, filter, Option, Some, None}
+use Rattle.std.specs.Prelude.{slice_get, length}
 use Rattle.std.specs.Prelude.{sum_by}
 use Rattle.tam_word.specs.Lists.{all_of}
 use Rattle.tl0_code.specs.declared.inlet.Inlet.{Inlet}

@@ -51,9 +51,9 @@ all-both test [] ys h k = k
 all-both test (x ∷ xs) ys h k = let p = all-parts test x xs h in all-first test x (xs ++ ys) p.0 (all-both test xs ys p.1 k)
 
 -- where all of the joined one pass, all of the first do
-pub all-front : {X : Type 0} (test : X → Bool) (xs ys : List X) → all_of test (xs ++ ys) ≡ true → all_of test xs ≡ true
-all-front test [] ys h = refl
-all-front test (x ∷ xs) ys h = let p = all-parts test x (xs ++ ys) h in all-first test x xs p.0 (all-front test xs ys p.1)
+pub all-prefix : {X : Type 0} (test : X → Bool) (xs ys : List X) → all_of test (xs ++ ys) ≡ true → all_of test xs ≡ true
+all-prefix test [] ys h = refl
+all-prefix test (x ∷ xs) ys h = let p = all-parts test x (xs ++ ys) h in all-first test x xs p.0 (all-prefix test xs ys p.1)
 
 -- and all of the second
 pub all-back : {X : Type 0} (test : X → Bool) (xs ys : List X) → all_of test (xs ++ ys) ≡ true → all_of test ys ≡ true
@@ -117,7 +117,8 @@ token-alone (b ∷ bs) h =
     rw (no_space b p.0) (ap (onto_first b) (token-alone bs p.1))
 
 -- it goes into the first line
-token-lines : (t rest line : List ℕ) (lines : List (List ℕ)) → all_of is_ink t ≡ true → lines_of rest ≡ line ∷ lines → lines_of (t ++ rest) ≡ (t ++ line) ∷ lines
+token-lines : (t rest line : List ℕ) (lines : List (List ℕ)) → all_of is_ink t ≡ true → lines_of rest ≡ line ∷ lines
+    → lines_of (t ++ rest) ≡ (t ++ line) ∷ lines
 token-lines [] rest line lines h e = e
 token-lines (b ∷ bs) rest line lines h e =
     let p = all-parts is_ink b bs h in

@@ -1,5 +1,6 @@
 -- Printed lines are read one behind the other, without a fault.
-use Rattle.std.proofs.Common.{◌≡◌, ℕ, suc, ◌+◌, ◌^◌, ◌≤◌, ◌<◌, Bool, true, false, not, List, [], ◌∷◌, ◌++◌, map, flat_map, Option, Some, None, refl, sym, ap, ap₂, ◌∙◌, arith}
+use Rattle.std.proofs.Common.{◌≡◌, ℕ, suc, ◌+◌, ◌^◌, ◌≤◌, ◌<◌, Bool, true, false, not, List, [], ◌∷◌, ◌++◌, map, flat_map, Option, Some, None, refl}
+use Rattle.std.proofs.Common.{sym, ap, ap₂, ◌∙◌, arith}
 use Rattle.std.proofs.Common.{subst, true≢false, ◌==◌, ◌||◌, length, append_assoc}
 use Rattle.std.specs.Prelude.{decimal, codes, is_some}
 use Rattle.std.proofs.lemmas.Bool.{ltb-true}
@@ -26,7 +27,8 @@ use Rattle.tl0_text.specs.declared.verb.Form.TheVariants as form
 use Rattle.tl0_text.specs.CodeSayings.{tokens_of, is_whole, has_empty, form_text, form_of, size_of, line_said}
 use Rattle.tl0_text.specs.Reading.{Said, with_line, is_head, head_of, line_with, body_of, line_at, passes, faults_of_head, faults_by, faults_of_tokens}
 use Rattle.tl0_text.specs.Reading.{faults_of_line, said_by, faults_from, said_from}
-use Rattle.tl0_text.proofs.Cutting.{is_token, all-parts, all-first, decimal-token, signed-token, tokens-again, whole-again, none-empty, line-first, with-nothing}
+use Rattle.tl0_text.proofs.Cutting.{is_token, all-parts, all-first, decimal-token, signed-token, tokens-again, whole-again, none-empty, line-first}
+use Rattle.tl0_text.proofs.Cutting.{with-nothing}
 use Rattle.tl0_text.proofs.Forms.{line_form, line_numbers, second_text, number_tokens, verb_of, IsBehindHead, line-tokens}
 use Rattle.tl0_text.specs.Printing.{is_word}
 use Rattle.tl0_text.proofs.Comes.{Comes, said-again, body-again, counts-again}
@@ -310,12 +312,14 @@ pub leads-none : (s : Said) → Leads s [] s
 leads-none s = record { clean = λ rest h. h; said = λ rest. refl; lines = λ rest. refl }
 
 -- a line leads behind it
-pub leads-one : (s : Said) (l : CodeLine) → Comes s.next l → all_of is_word (line_numbers l) ≡ true → passes s (Some l) ≡ false → Leads s (l ∷ []) (with_line s l)
+pub leads-one : (s : Said) (l : CodeLine) → Comes s.next l → all_of is_word (line_numbers l) ≡ true → passes s (Some l) ≡ false
+    → Leads s (l ∷ []) (with_line s l)
 leads-one s l c w none =
     let at = at-again s l c w none in
     record {
       clean = λ rest h n.
-          ap₂ (λ (cs : List Cause0) (o : Option CodeLine). map (λ x. (n, x)) cs ++ faults_from (said_by s o) (n + 1) rest) (clean-again s l c w none) at ∙ h (n + 1);
+          ap₂ (λ (cs : List Cause0) (o : Option CodeLine). map (λ x. (n, x)) cs ++ faults_from (said_by s o) (n + 1) rest)
+          (clean-again s l c w none) at ∙ h (n + 1);
       said = λ rest. ap (λ (o : Option CodeLine). said_from (said_by s o) rest) at;
       lines = λ rest. ap (λ (bs : List ℕ). lines_of (bs ++ rest)) (with-nothing (line_text l)) ∙ first s l c w none rest;
     }

@@ -1,5 +1,6 @@
 -- What lines say keeps the limits of a program, line by line.
-use Rattle.std.proofs.Common.{◌≡◌, ℕ, suc, ◌+◌, ◌^◌, ◌≤◌, ◌<◌, Bool, true, false, List, [], ◌∷◌, ◌++◌, map, flat_map, Option, Some, None, refl, sym, ap, ap₂, ◌∙◌, arith}
+use Rattle.std.proofs.Common.{◌≡◌, ℕ, suc, ◌+◌, ◌^◌, ◌≤◌, ◌<◌, Bool, true, false, List, [], ◌∷◌, ◌++◌, map, flat_map, Option, Some, None, refl, sym}
+use Rattle.std.proofs.Common.{ap, ap₂, ◌∙◌, arith}
 use Rattle.std.proofs.Common.{subst, true≢false, ◌==◌, length, inl, inr, ◌⊎◌}
 use Rattle.std.specs.Prelude.{nat_lt, nat_le, sum_by}
 use Rattle.std.specs.List.{AllByRecursion}
@@ -73,7 +74,14 @@ sound-on next.Counts Ends s e c f h = absurd c
 sound-on next.Head Version s e c f h = absurd c
 sound-on next.Head (Counts k m) s e c f h = absurd c
 sound-on next.Head (Head p r k) s e c f h =
-    record { few_slots = ltb-false 1026 k f; few_inlets = omega arith; few_threads = omega arith; few_codes = h.few_codes; stage = (stage-at next.Head s e h, refl) }
+    record {
+      few_slots = ltb-false 1026 k f;
+      few_inlets = omega arith;
+      few_threads = omega arith;
+      few_codes = h.few_codes;
+      stage =
+          (stage-at next.Head s e h, refl);
+    }
 sound-on next.Head (Into i) s e c f h = absurd c
 sound-on next.Head (Begins k) s e c f h = absurd c
 sound-on next.Head (Does i) s e c f h = absurd c
@@ -309,7 +317,8 @@ worded-on next.Instrs Stops s e c h w d =
       params = d.params;
       results = d.results;
       inlets = d.inlets;
-      threads = more-words thread_numbers s.code.threads s.thread d.threads (all-first is_word s.thread.count (flat_map numbers_of s.thread.instrs) d.count d.instrs);
+      threads = more-words thread_numbers s.code.threads s.thread d.threads
+          (all-first is_word s.thread.count (flat_map numbers_of s.thread.instrs) d.count d.instrs);
       count = refl;
       instrs = refl;
     }

@@ -1,5 +1,6 @@
 -- The lines one by one: the faults from a line on are all faults, as long as there was none.
-use Rattle.std.proofs.Common.{◌≡◌, ℕ, suc, ◌+◌, ◌-◌, ◌≤◌, ◌<◌, Bool, true, false, cond, List, [], ◌∷◌, ◌++◌, map, flat_map, take, drop, get_or, length, Option, Some, None}
+use Rattle.std.proofs.Common.{◌≡◌, ℕ, suc, ◌+◌, ◌-◌, ◌≤◌, ◌<◌, Bool, true, false, cond, List, [], ◌∷◌, ◌++◌, map, flat_map, take, drop, get_or}
+use Rattle.std.proofs.Common.{length, Option, Some, None}
 use Rattle.std.proofs.Common.{refl, sym, ap, ◌∙◌, arith, subst, ◌||◌, ◌==◌, not, true≢false}
 use Rattle.std.specs.Prelude.{option_to_list, IfNone, nat_le, is_some, count_by, MatchResult, IfErr, Result, Ok, Err}
 use Rattle.std.specs.List.{slice_split, find}
@@ -24,7 +25,8 @@ use Rattle.tl0_text.specs.declared.verb.Form.{Form}
 use Rattle.tl0_text.specs.declared.verb.Form.TheVariants as form
 use Rattle.tl0_text.specs.CodeSayings.{is_space, without_line_feed, tokens_of, has_empty, is_whole, form_of, size_of, size_of_verb}
 use Rattle.tl0_text.specs.Reading.{Said, Reads0, IsFirst, nothing_said, with_line, said_by, line_at, is_head, head_of, is_version, counts_of, line_with, passes}
-use Rattle.tl0_text.specs.Reading.{has_wrong_size, long_line_cause, faults_of_head, faults_by, faults_of_tokens, faults_of_line, faults_at_end, faults_from, faults, said_from}
+use Rattle.tl0_text.specs.Reading.{has_wrong_size, long_line_cause, faults_of_head, faults_by, faults_of_tokens, faults_of_line, faults_at_end}
+use Rattle.tl0_text.specs.Reading.{faults_from, faults, said_from}
 use Rattle.tl0_text.specs.Reading.{program_said, program_of}
 use Rattle.tl0_text.specs.Sound.{IsSound, IsStage}
 use Rattle.tl0_text.proofs.Cutting.{lines-joined, with-nothing}

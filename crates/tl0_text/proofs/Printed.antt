@@ -14,7 +14,8 @@ use Rattle.tl0_code.specs.declared.instr.Instr.{Instr}
 use Rattle.tl0_code.specs.declared.instr.Instr.TheVariants as instr
 use Rattle.tl0_code.specs.ThreadCode.{Thread, CodeText, Program, HasCodeLimits, HasProgramLimits, IsCodeText, IsProgram}
 use Rattle.tl0_code.specs.CodeTexts.{spaced, thread_lines, text_lines, program_text}
-use Rattle.tl0_text.specs.Printing.{is_word, inlet_numbers, thread_numbers, HasWords, further, numbers_line, imm_line, instr_text, inlet_text, thread_text, code_bytes}
+use Rattle.tl0_text.specs.Printing.{is_word, inlet_numbers, thread_numbers, HasWords, further, numbers_line, imm_line, instr_text, inlet_text}
+use Rattle.tl0_text.specs.Printing.{thread_text, code_bytes}
 use Rattle.tl0_text.specs.Printing.{counts_text, printed}
 use Rattle.tl0_text.specs.Reading.{Reads0}
 use Rattle.tl0_text.proofs.Cutting.{all-parts, all-first, all-both, with-nothing}
@@ -117,7 +118,8 @@ if-ok (Ok a) P h = h
 if-ok (Err b) P h = tt
 
 -- a code that was printed
-pub code-made : (c : CodeText) (p r s : ℕ) (is : List Inlet) (ts : List Thread) → HasCodeLimits c → p ≡ c.params → r ≡ c.results → is ≡ c.inlets → ts ≡ c.threads
+pub code-made : (c : CodeText) (p r s : ℕ) (is : List Inlet) (ts : List Thread) → HasCodeLimits c → p ≡ c.params → r ≡ c.results → is ≡ c.inlets
+    → ts ≡ c.threads
     → all_of is_word (p ∷ r ∷ s ∷ []) ≡ true → all_of is_word (flat_map inlet_numbers is) ≡ true → AllByRecursion HasWords ts → IsCodeText c
 code-made c p r s is ts h ep er ei et w wi wt =
     let a = all-parts is_word p (r ∷ s ∷ []) w in

@@ -42,7 +42,8 @@ module _ (k m : ℕ) where
       → Leads (Between d next.Head) (flat_map text_lines cs) (Between (d ++ cs) next.Done)
   lead-codes d [] h some e = absurd (omega arith)
   lead-codes d (c ∷ []) h some e =
-      let one : Leads (Between d next.Head) (text_lines c) (Between (d ++ c ∷ []) (behind_code k (suc (length d)))) = lead-code k m d c (h zero (omega arith)) in
+      let one : Leads (Between d next.Head) (text_lines c) (Between (d ++ c ∷ []) (behind_code k (suc (length d)))) =
+      lead-code k m d c (h zero (omega arith)) in
       subst (λ (ls : List CodeLine). Leads (Between d next.Head) ls (Between (d ++ c ∷ []) next.Done)) (sym (with-nothing (text_lines c)))
       (subst (λ (n : Next). Leads (Between d next.Head) (text_lines c) (Between (d ++ c ∷ []) n)) (behind-last k (suc (length d)) (omega arith)) one)
   lead-codes d (c ∷ x ∷ cs) h some e =

@@ -1,5 +1,6 @@
 -- A text without a fault is the text of the program that its lines say.
-use Rattle.std.proofs.Common.{◌≡◌, ℕ, zero, suc, ◌+◌, ◌^◌, ◌≤◌, ◌<◌, Bool, true, false, not, List, [], ◌∷◌, ◌++◌, map, flat_map, Option, Some, None, refl, sym, ap, ap₂, ◌∙◌, arith}
+use Rattle.std.proofs.Common.{◌≡◌, ℕ, zero, suc, ◌+◌, ◌^◌, ◌≤◌, ◌<◌, Bool, true, false, not, List, [], ◌∷◌, ◌++◌, map, flat_map, Option, Some, None}
+use Rattle.std.proofs.Common.{refl, sym, ap, ap₂, ◌∙◌, arith}
 use Rattle.std.proofs.Common.{subst, true≢false, ◌==◌, ◌||◌, length, append_assoc}
 use Rattle.std.specs.Prelude.{nat_lt, nat_le, is_some, slice_get, sum_by}
 use Rattle.std.specs.List.{AllByRecursion}
@@ -22,7 +23,8 @@ use Rattle.tl0_text.specs.declared.next.Next.{Next}
 use Rattle.tl0_text.specs.declared.next.Next.TheVariants as next
 use Rattle.tl0_text.specs.CodeSayings.{tokens_of, is_whole, has_empty, form_of}
 use Rattle.tl0_text.specs.Reading.{Said, Reads0, nothing_said, behind_code, with_line, is_head, head_of, line_with, body_of, line_at, passes, has_wrong_size}
-use Rattle.tl0_text.specs.Reading.{faults_of_head, faults_by, faults_of_tokens, faults_of_line, faults_at_end, said_by, faults_from, faults, said_from, program_said, program_of}
+use Rattle.tl0_text.specs.Reading.{faults_of_head, faults_by, faults_of_tokens, faults_of_line, faults_at_end, said_by, faults_from, faults}
+use Rattle.tl0_text.specs.Reading.{said_from, program_said, program_of}
 use Rattle.tl0_text.specs.Sound.{IsSound, IsStage, instrs_said}
 use Rattle.tl0_text.proofs.Cutting.{with-nothing, EndsOnce, lines-end, lines-joined, lines-few, line-is}
 use Rattle.tl0_text.proofs.Forms.{line_numbers}
@@ -109,13 +111,13 @@ clean-tokens s line (t ∷ ts) p q e =
     let one = where_so test BadLine in
     let two = where_so (not (is_some o)) BadNumber in
     let three = where_so (passes s o) TooMany in
-    let front : one ++ two ≡ [] = none-left (one ++ two) three e in
-    let here = there o (where-none (not (is_some o)) BadNumber (none-right one two front)) in
+    let prefix : one ++ two ≡ [] = none-left (one ++ two) three e in
+    let here = there o (where-none (not (is_some o)) BadNumber (none-right one two prefix)) in
     let at : line_at s.next (tokens_of line) ≡ Some here.0 = rw (line_at, p) (ap (body_of s.next) q ∙ here.1) in
     record {
       said = here.0;
       at = at;
-      whole = third-fails (has_wrong_size f ts) (has_empty (t ∷ ts)) (is_whole line) (where-none test BadLine (none-left one two front));
+      whole = third-fails (has_wrong_size f ts) (has_empty (t ∷ ts)) (is_whole line) (where-none test BadLine (none-left one two prefix));
       passes_none = ap (passes s) (sym here.1) ∙ where-none (passes s o) TooMany (none-right (one ++ two) three e);
     }
 
@@ -187,7 +189,8 @@ base-behind number done s = go (done == number)
     go false = refl
 
 -- a line that comes goes last
-lines-on : (n : Next) (l : CodeLine) (s : Said) → s.next ≡ n → Comes n l → IsSound s → said_lines (with_line s l).next (with_line s l) ≡ said_lines n s ++ l ∷ []
+lines-on : (n : Next) (l : CodeLine) (s : Said) → s.next ≡ n → Comes n l → IsSound s → said_lines (with_line s l).next (with_line s l) ≡ said_lines n
+    s ++ l ∷ []
 lines-on next.Version Version s e c h = refl
 lines-on next.Version (Counts k m) s e c h = absurd c
 lines-on next.Version (Head p r k) s e c h = absurd c

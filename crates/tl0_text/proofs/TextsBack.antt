@@ -16,7 +16,7 @@ use Rattle.tl0_code.specs.CodeTexts.{thread_lines, text_lines, program_lines, pr
 use Rattle.tl0_text.specs.declared.next.Next.{Next}
 use Rattle.tl0_text.specs.declared.next.Next.TheVariants as next
 use Rattle.tl0_text.specs.Reading.{Said, Reads0, nothing_said, bare, idle, behind_code, faults, said_from, program_said, program_of}
-use Rattle.tl0_text.proofs.Cutting.{all-parts, all-first, all-front, all-back, with-nothing}
+use Rattle.tl0_text.proofs.Cutting.{all-parts, all-first, all-prefix, all-back, with-nothing}
 use Rattle.tl0_text.specs.Printing.{is_word}
 use Rattle.tl0_text.specs.Printing.{inlet_numbers, thread_numbers}
 use Rattle.tl0_text.proofs.Sayings.{line_text}
@@ -58,7 +58,7 @@ module _ (k m : ℕ) (d : List CodeText) where
   lead-instrs c n js (i ∷ is) w =
       let s = At next.Instrs c (thread_with n js) in
       let t = At next.Instrs c (thread_with n (js ++ i ∷ [])) in
-      let one : Leads s (Does i ∷ []) t = leads-one s (Does i) tt (all-front is_word (numbers_of i) (flat_map numbers_of is) w) refl in
+      let one : Leads s (Does i ∷ []) t = leads-one s (Does i) tt (all-prefix is_word (numbers_of i) (flat_map numbers_of is) w) refl in
       let others : Leads t (map Does is) (At next.Instrs c (thread_with n ((js ++ i ∷ []) ++ is))) =
       lead-instrs c n (js ++ i ∷ []) is (all-back is_word (numbers_of i) (flat_map numbers_of is) w) in
       subst (λ (l : List Instr). Leads s (map Does (i ∷ is)) (At next.Instrs c (thread_with n l))) (append_assoc js (i ∷ []) is)
@@ -90,7 +90,8 @@ module _ (k m : ℕ) (d : List CodeText) where
       let p = all-parts is_word t.count (flat_map numbers_of t.instrs) w in
       let one : Leads s (Begins t.count ∷ []) u =
       leads-one s (Begins t.count) tt (all-first is_word t.count [] p.0 refl) (not-reached 3073 (length c.threads) l) in
-      leads-then s u (At next.Threads (with_threads c (c.threads ++ t ∷ [])) (idle 0)) (Begins t.count ∷ []) (map Does t.instrs ++ Stops ∷ []) one (lead-begun c t w)
+      leads-then s u (At next.Threads (with_threads c (c.threads ++ t ∷ [])) (idle 0)) (Begins t.count ∷ []) (map Does t.instrs ++ Stops ∷ []) one
+      (lead-begun c t w)
 
   -- a further one
   lead-further : (c : CodeText) (t : Thread) → all_of is_word (thread_numbers t) ≡ true → length c.threads < 3073
@@ -101,7 +102,8 @@ module _ (k m : ℕ) (d : List CodeText) where
       let p = all-parts is_word t.count (flat_map numbers_of t.instrs) w in
       let one : Leads s (Begins t.count ∷ []) u =
       leads-one s (Begins t.count) tt (all-first is_word t.count [] p.0 refl) (not-reached 3073 (length c.threads) l) in
-      leads-then s u (At next.Threads (with_threads c (c.threads ++ t ∷ [])) (idle 0)) (Begins t.count ∷ []) (map Does t.instrs ++ Stops ∷ []) one (lead-begun c t w)
+      leads-then s u (At next.Threads (with_threads c (c.threads ++ t ∷ [])) (idle 0)) (Begins t.count ∷ []) (map Does t.instrs ++ Stops ∷ []) one
+      (lead-begun c t w)
 
   -- threads behind others
   lead-threads : (c : CodeText) (us ts : List Thread) → all_of is_word (flat_map thread_numbers ts) ≡ true → length us + length ts ≤ 3073
@@ -114,7 +116,7 @@ module _ (k m : ℕ) (d : List CodeText) where
       let u = At next.Threads (with_threads c (us ++ t ∷ [])) (idle 0) in
       let more = length-append us (t ∷ []) in
       let one : Leads s (thread_lines t) u =
-      lead-further (with_threads c us) t (all-front is_word (thread_numbers t) (flat_map thread_numbers ts) w) (omega arith) in
+      lead-further (with_threads c us) t (all-prefix is_word (thread_numbers t) (flat_map thread_numbers ts) w) (omega arith) in
       let others : Leads u (flat_map thread_lines ts) (At next.Threads (with_threads c ((us ++ t ∷ []) ++ ts)) (idle 0)) =
       lead-threads c (us ++ t ∷ []) ts (all-back is_word (thread_numbers t) (flat_map thread_numbers ts) w) (omega arith) in
       subst (λ (x : List Thread). Leads s (flat_map thread_lines (t ∷ ts)) (At next.Threads (with_threads c x) (idle 0))) (append_assoc us (t ∷ []) ts)
@@ -138,7 +140,7 @@ module _ (k m : ℕ) (d : List CodeText) where
       let more = length-append js (i ∷ []) in
       let few : length js < 1024 = omega arith in
       let one : Leads s (Into i ∷ []) u =
-      leads-one s (Into i) tt (all-front is_word (inlet_numbers i) (flat_map inlet_numbers is) w) (not-reached 1024 (length js) few) in
+      leads-one s (Into i) tt (all-prefix is_word (inlet_numbers i) (flat_map inlet_numbers is) w) (not-reached 1024 (length js) few) in
       let others : Leads u (map Into is) (At next.Inlets (with_inlets c ((js ++ i ∷ []) ++ is)) (idle 0)) =
       lead-inlets c (js ++ i ∷ []) is (all-back is_word (inlet_numbers i) (flat_map inlet_numbers is) w) (omega arith) in
       subst (λ (x : List Inlet). Leads s (map Into (i ∷ is)) (At next.Inlets (with_inlets c x) (idle 0))) (append_assoc js (i ∷ []) is)
@@ -179,7 +181,7 @@ module _ (k m : ℕ) (d : List CodeText) where
       (not-above 1026 s few) in
       let inlets : Leads z1 (map Into is) z2 = lead-inlets (bare p r s) [] is wi (omega arith) in
       let first : Leads z2 (thread_lines t) z3 =
-      lead-first (with_inlets (bare p r s) is) t (all-front is_word (thread_numbers t) (flat_map thread_numbers ts) wt) (omega arith) in
+      lead-first (with_inlets (bare p r s) is) t (all-prefix is_word (thread_numbers t) (flat_map thread_numbers ts) wt) (omega arith) in
       let others : Leads z3 (flat_map thread_lines ts) z4 =
       lead-threads (with_inlets (bare p r s) is) (t ∷ []) ts (all-back is_word (thread_numbers t) (flat_map thread_numbers ts) wt) (omega arith) in
       let threads : Leads z2 (flat_map thread_lines (t ∷ ts)) z4 = leads-then z2 z3 z4 (thread_lines t) (flat_map thread_lines ts) first others in
@@ -196,7 +198,7 @@ module _ (k m : ℕ) (d : List CodeText) where
   lead-code c h =
       let p = all-parts is_word c.params (c.results ∷ (flat_map inlet_numbers c.inlets ++ flat_map thread_numbers c.threads)) h.words in
       let r = all-parts is_word c.results (flat_map inlet_numbers c.inlets ++ flat_map thread_numbers c.threads) p.1 in
-      go c.threads refl (all-front is_word (flat_map inlet_numbers c.inlets) (flat_map thread_numbers c.threads) r.1)
+      go c.threads refl (all-prefix is_word (flat_map inlet_numbers c.inlets) (flat_map thread_numbers c.threads) r.1)
       (all-back is_word (flat_map inlet_numbers c.inlets) (flat_map thread_numbers c.threads) r.1) p.0 r.0
     where
       go : (ts : List Thread) → c.threads ≡ ts → all_of is_word (flat_map inlet_numbers c.inlets) ≡ true
@@ -214,5 +216,6 @@ module _ (k m : ℕ) (d : List CodeText) where
             code = bare 0 0 0;
             thread = idle 0;
           })) (sym e)
-          (lead-parts c.params c.results c.slots c.inlets t ts wp wr h.few_slots wi h.few_inlets (sym (ap (λ (xs : List Thread). all_of is_word (flat_map thread_numbers xs)) e) ∙ wt)
+          (lead-parts c.params c.results c.slots c.inlets t ts wp wr h.few_slots wi h.few_inlets
+          (sym (ap (λ (xs : List Thread). all_of is_word (flat_map thread_numbers xs)) e) ∙ wt)
           (let few = h.few_threads in let same = ap length e in omega arith))

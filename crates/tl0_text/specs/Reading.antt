@@ -74,7 +74,8 @@ counts_line _ _ = None
 
 -- the second line
 abbrev pub counts_of : List (List ℕ) → Option CodeLine
-counts_of (a ∷ n ∷ b ∷ m ∷ []) = elim (same_bytes a (codes "codes") && same_bytes b (codes "main")) [ true ↦ counts_line (number_of n) (number_of m) | false ↦ None ]
+counts_of (a ∷ n ∷ b ∷ m ∷ []) = elim (same_bytes a (codes "codes") && same_bytes b (codes "main"))
+    [ true ↦ counts_line (number_of n) (number_of m) | false ↦ None ]
 counts_of _ = None
 
 -- the line of the head that comes next

@@ -9,11 +9,18 @@ const SUM: &[u8] =
 
 // Two values go through a branch one by one, the first before the second is there.
 const LOOP: &[u8] =
-    b"tl0 2\ncodes 1 main 0\ncode 2 1 13\ninlet 2 1\ninlet 3 2\nthread 1\nstop\nthread 1\nswitch 2 9 10\nfork 2\nfork 3\nstop\nthread 2\nswitch 2 11 12\nstop\nthread 2\nswitch 2 13 14\nstop\nthread 1\nret 0 12\nstop\nthread 1\nimm 6 1\nadd 7 4 6\nmov 11 7\nfork 3\nfork 6\nstop\nthread 2\nadd 8 5 7\nmov 12 8\nfork 4\nstop\nthread 1\nmov 11 9\nfork 3\nstop\nthread 1\nmov 12 10\nfork 4\nstop\nthread 1\nskip 5\nstop\nthread 1\nskip 5\nstop\nthread 1\nmov 4 3\nfork 5\nstop\nthread 1\nmov 9 3\nfork 7\nstop\nthread 1\nmov 5 11\nfork 6\nstop\nthread 1\nmov 10 11\nfork 8\nstop\nend\n";
+    b"tl0 2\ncodes 1 main 0\ncode 2 1 13\ninlet 2 1\ninlet 3 2\nthread 1\nstop\nthread 1\nswitch 2 9 10\nfork 2\nfork 3\nstop\n\
+      thread 2\nswitch 2 11 12\nstop\nthread 2\nswitch 2 13 14\nstop\nthread 1\nret 0 12\nstop\nthread 1\nimm 6 1\nadd 7 4 6\n\
+      mov 11 7\nfork 3\nfork 6\nstop\nthread 2\nadd 8 5 7\nmov 12 8\nfork 4\nstop\nthread 1\nmov 11 9\nfork 3\nstop\nthread 1\n\
+      mov 12 10\nfork 4\nstop\nthread 1\nskip 5\nstop\nthread 1\nskip 5\nstop\nthread 1\nmov 4 3\nfork 5\nstop\nthread 1\n\
+      mov 9 3\nfork 7\nstop\nthread 1\nmov 5 11\nfork 6\nstop\nthread 1\nmov 10 11\nfork 8\nstop\nend\n";
 
 // Each instruction once, in a code that calls, keeps cells and answers.
 const ALL: &[u8] =
-    b"tl0 2\ncodes 2 main 1\ncode 0 0 2\nthread 65535\nstop\nend\ncode 3 2 1026\ninlet 2 1\ninlet 4294967295 3072\nthread 0\nimm 2 -2147483648\nimm 3 2147483647\nmov 4 3\nsub 4 2 3\nmul 4 2 3\ndiv 4 2 3\ndivu 4 2 3\nrem 4 2 3\nremu 4 2 3\nand 4 2 3\nor 4 2 3\nxor 4 2 3\nsll 4 2 3\nsrl 4 2 3\nsra 4 2 3\nslt 4 2 3\nsltu 4 2 3\neq 4 2 3\nfork 1\nswitch 4 1 2\nfalloc 0 1\nsend 5 63 4\nret 1 4\nialloc 4 0\nifetch 6 4 1 1023\nistore 6 4 3 1022\nskip 4294967295\nstop\nend\n";
+    b"tl0 2\ncodes 2 main 1\ncode 0 0 2\nthread 65535\nstop\nend\ncode 3 2 1026\ninlet 2 1\ninlet 4294967295 3072\nthread 0\n\
+      imm 2 -2147483648\nimm 3 2147483647\nmov 4 3\nsub 4 2 3\nmul 4 2 3\ndiv 4 2 3\ndivu 4 2 3\nrem 4 2 3\nremu 4 2 3\n\
+      and 4 2 3\nor 4 2 3\nxor 4 2 3\nsll 4 2 3\nsrl 4 2 3\nsra 4 2 3\nslt 4 2 3\nsltu 4 2 3\neq 4 2 3\nfork 1\nswitch 4 1 2\n\
+      falloc 0 1\nsend 5 63 4\nret 1 4\nialloc 4 0\nifetch 6 4 1 1023\nistore 6 4 3 1022\nskip 4294967295\nstop\nend\n";
 
 // What comes of reading the text and printing what was read: the text again, or why it was refused.
 fn again(alloc: Global, text: &[u8]) -> Result<Vec<u8>, Refused0> {

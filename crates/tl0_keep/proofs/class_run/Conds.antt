@@ -28,6 +28,7 @@ same-owner e = cc
 pub then-class : (x : ℕ) (n : ThreadKind) (b k : ℕ) → Then_of x ≡ n → n ≡ Class b k → ⊥
 then-class x n b k e f = cc
 
+-- a thread that stands for an else branch is none of a class
 pub else-class : (x : ℕ) (n : ThreadKind) (b k : ℕ) → Else_of x ≡ n → n ≡ Class b k → ⊥
 else-class x n b k e f = cc
 

@@ -53,6 +53,7 @@ then-events m k (Broken what n) go h more e = absurd (broken e)
     broken : Broken what n ≡ Fine k → ⊥
     broken q = cc
 
+-- the instructions of a thread make no event
 pub done-events : (m k : Machine) (f : ℕ) (is : List Instr) → done_all Plain m f is ≡ Fine k → k.events ≡ m.events
 done-events m k f [] e = sym (fine e)
   where

@@ -120,6 +120,7 @@ append-none : (xs : List Message) → xs ++ [] ≡ xs
 append-none [] = refl
 append-none (x ∷ xs) = ap (λ l. x ∷ l) (append-none xs)
 
+-- runs of classes only add to a state
 pub runs-on : (g : Graph) (all : Partitions) (es : List Event) → ((e : Event) → In e es → IsClassRun e) → (s : State) → RunsOn s (state_from g all s es)
 runs-on g all [] h s = record { calls = same-calls s.world s.world refl; arrived = refl; more = []; sent = sym (append-none s.sent) }
 runs-on g all (Run i b c ∷ es) h s =

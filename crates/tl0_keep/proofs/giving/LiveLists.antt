@@ -82,9 +82,11 @@ pub record Keeps (more : ℕ) (hs ks : List (Option Frame)) : Type 0 where
   pub owe : LiveOwe hs → LiveOwe ks
   pub few : count_by is_held ks ≤ count_by is_held hs + more
 
+-- a list of frames keeps itself
 pub keeps-same : (hs : List (Option Frame)) → Keeps 0 hs hs
 keeps-same hs = record { owe = λ o. o; few = omega arith }
 
+-- what keeps frames that are kept keeps them
 pub keeps-on : (more : ℕ) (hs ks ls : List (Option Frame)) → Keeps more hs ks → Keeps 0 ks ls → Keeps more hs ls
 keeps-on more hs ks ls a b = record { owe = λ o. b.owe (a.owe o); few = let p = a.few in let q = b.few in omega arith }
 

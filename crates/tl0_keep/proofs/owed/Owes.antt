@@ -92,12 +92,14 @@ dead-on g all n s u i on t d = record {
   beneath = d.beneath;
 }
 
+-- a thread that has run has run later
 pub gone-on : (g : Graph) (all : Partitions) (n : ℕ) (s u : FrameTable) (i : ℕ) → ((t : ℕ) → IsRun s i t → IsRun u i t) → (t : ℕ) → IsRun s i t
     ⊎ IsDead g all n s i t
     → IsRun u i t ⊎ IsDead g all n u i t
 gone-on g all n s u i on t (inl r) = inl (on t r)
 gone-on g all n s u i on t (inr d) = inr (dead-on g all n s u i on t d)
 
+-- a frame that goes on owes what is left of its threads
 pub owes-on : (g : Graph) (all : Partitions) (p : Program) (n : ℕ) (s u : FrameTable) (i : ℕ) → Goes (frame_at s i) (frame_at u i) → FrameOwes g all p n s i
     → FrameOwes g all p n u i
 owes-on g all p n s u i go o = record {

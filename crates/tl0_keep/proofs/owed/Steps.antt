@@ -83,6 +83,7 @@ StepOwes g all p k (Next m) = AllOwe g all p m × ((i : ℕ) → i < length k.ta
     × ((frame_at m.table i).owed ≤ (frame_at k.table i).owed))
 StepOwes g all p k (Ended how m) = (x : ℕ) → how ≡ Wild Wild_skip x → ⊥
 
+-- equal wild ends have equal causes
 pub wild-eq : {a b : WildCause} {n k : ℕ} → Wild a n ≡ Wild b k → a ≡ b
 wild-eq e = cc
 

@@ -92,6 +92,7 @@ changed-at (Some h ∷ hs) (suc f) change g zero = goes-same h
 changed-at (None ∷ hs) (suc f) change g (suc i) = changed-at hs f change g i
 changed-at (Some h ∷ hs) (suc f) change g (suc i) = changed-at hs f change g i
 
+-- a table in which one frame goes on goes on
 pub changed-goes : (s : FrameTable) (f : ℕ) (change : Frame → Frame) → ((h : Frame) → Goes h (change h)) → TableGoes s (changed s f change)
 changed-goes s f change g = record { frames = changed-length s.frames f change; goes = λ i. changed-at s.frames f change g i }
 
@@ -174,9 +175,11 @@ spent-goes s f t n e = record {
 pub fine-eq : {m k : Machine} → Fine m ≡ Fine k → m ≡ k
 fine-eq e = cc
 
+-- what broke off is not fine
 pub broken-fine : {m : Machine} {what : WildCause} {n : ℕ} → Broken what n ≡ Fine m → ⊥
 broken-fine e = cc
 
+-- a table in which a count is spent goes on
 pub spend-goes : (m k : Machine) (f t : ℕ) → spend m f t ≡ Fine k → MachineGoes m k
 spend-goes m k f t e = go (slice_get (frame_at m.table f).counts t) refl e
   where
@@ -288,6 +291,7 @@ pub record TakenGoes (s after : FrameTable) (f t : ℕ) : Type 0 where
   pub back : (u : ℕ) → IsRun after f u → (t ≡ u) ⊎ IsRun s f u
   pub others : (i : ℕ) → (f ≡ i → ⊥) → Goes (frame_at s i) (frame_at after i)
 
+-- so does one from which a ready thread is taken
 pub taken-goes : (s after : FrameTable) (f t : ℕ) → Leaves s after f t → TakenGoes s after f t
 taken-goes s after f t l = record {
   frames = ap length l.frames ∙ changed-length s.frames f (λ h. record h { ready = l.rest });
@@ -331,6 +335,7 @@ taken-run s after f t l z d = record {
 
 -- ---- instructions that aren't skips break by a thread alone
 
+-- where the instructions of a plain thread break off, so do those that owe
 pub plain-broken : (m : Machine) (f : ℕ) (is : List Instr) (what : WildCause) (x : ℕ) → done_all Plain m f is ≡ Broken what x
     → what ≡ Wild_thread
 plain-broken m f [] what x e = absurd (broken-fine (sym e))

@@ -25,6 +25,7 @@ frames-twice : (hs : List (Option Frame)) → map without_owed (map without_owed
 frames-twice [] = refl
 frames-twice (h ∷ hs) = ap (λ x. x ∷ map without_owed (map without_owed hs)) (frame-twice h) ∙ ap (λ l. without_owed h ∷ l) (frames-twice hs)
 
+-- a table without what is owed stays so
 pub table-twice : (s : FrameTable) → table_without_owed (table_without_owed s) ≡ table_without_owed s
 table-twice s = ap (with_frames s) (frames-twice s.frames)
 

@@ -52,7 +52,8 @@ returns-clause-counted c =
     let rest = c.pop_front.new.self.items in
     let kept = c.in_ok-apply.ensures.counts in
     record {
-      counts = λ i. rw c.less.ensures.value (fired-counts g m.world (pair_of v) (pairs_of rest) m.left (before g m c.requires.counted v rest c.in-Some.ensures.items)
+      counts = λ i. rw c.less.ensures.value (fired-counts g m.world (pair_of v) (pairs_of rest) m.left
+          (before g m c.requires.counted v rest c.in-Some.ensures.items)
           c.apply.new.machine.world (pairs_of c.apply.new.machine.ready.items) c.apply.new.machine.left kept.counts i);
       one_each = rw c.less.ensures.value (length-set c.apply.new.machine.left v.activation _
           ∙ (let e = c.requires.counted.one_each in let k = kept.one_each in omega arith));

@@ -10,7 +10,8 @@ use Rattle.tam_eval.proofs.delivering.deliver.Goals as goal
 
 pub returns-clause-outcome : goal.returns-clause-outcome
 returns-clause-outcome c = λ order printed.
-    outcome-settled c.args.program.now c.args.limits.now (state_of c.args.machine.now) c.args.message order printed (c.in_ok-has_room.ensures.value order printed)
+    outcome-settled c.args.program.now c.args.limits.now (state_of c.args.machine.now) c.args.message order printed
+    (c.in_ok-has_room.ensures.value order printed)
     c.deliver.new.self c.in_ok-delivery.delivery (state_of c.settle.new.machine) c.settle.result c.in_ok-delivery.ensures.cells.activations
     c.in_ok-delivery.ensures.kept c.in_ok-delivery.ensures.value (c.settle.ensures.outcome order printed)
 
@@ -58,7 +59,14 @@ returns-clause-within c =
     (c.in_ok-has_room.ensures.value [] []) c.requires.cells in
     let arrays = c.settle.ensures.sizes.arrays_kept in
     record {
-      activations = omega (arith, count, c.requires.begun, c.settle.ensures.sizes.few_activations, c.in_ok-delivery.ensures.begins, c.settle.ensures.sizes.events_kept);
+      activations = omega (
+        arith,
+        count,
+        c.requires.begun,
+        c.settle.ensures.sizes.few_activations,
+        c.in_ok-delivery.ensures.begins,
+        c.settle.ensures.sizes.events_kept,
+      );
       few_arrays = rw arrays c.in_ok-delivery.ensures.cells.arrays;
       cells = rw arrays (let used = c.in_ok-delivery.ensures.cells.used in omega arith);
       events_kept = c.settle.ensures.sizes.events_kept;

@@ -28,7 +28,8 @@ returns-clause-counts c =
     let count : number ≡ length s.world.activations = c.activations-word.ensures.value in
     let more : pairs_of c.ready_all.new.ready.items ≡ s.ready ++ map (λ z. (number, z)) (starters_of (code_of g c.args.code)) =
     rw (c.starters.ensures.value) at c.in_ok-ready_all.ensures.ok in
-    let vertices : length c.firers.result.now + length c.block_inlets.result.now ≡ length (firers_in (code_of g c.args.code) 0) + length (inlets_in (code_of g c.args.code) 0) =
+    let vertices : length c.firers.result.now + length c.block_inlets.result.now ≡ length (firers_in (code_of g c.args.code) 0) + length
+    (inlets_in (code_of g c.args.code) 0) =
     ap₂ (λ m n. m + n) (ap length (c.firers.ensures.value)) (ap length c.block_inlets.ensures.value) in
     on_ok c.send.result (λ (sent : c.send.new.pending.messages ≡ s.pending ++ Carry c.args.call.activation c.args.call.node number ∷ []).
     rw c.in_ok-begin-2.ensures.ok (keeps-begun g s

@@ -15,7 +15,8 @@ returns-then-run-classes c =
     record {
       value = λ all are. elim c.then-run-classes.branch [
         | then-run-classes-via-then-run-classes w ↦ no-class g all s r.act r.block r.class p are (omega (arith, w.if-run-classes.true, c.classes.ensures.value))
-        | then-run-classes-via-else-run-classes+then-has_run w ↦ ran-before g all s r.act r.block r.class p are (sym w.has_run.ensures.value ∙ w.if-has_run.true)
+        | then-run-classes-via-else-run-classes+then-has_run w ↦ ran-before g all s r.act r.block r.class p are
+            (sym w.has_run.ensures.value ∙ w.if-has_run.true)
         | then-run-classes-via-else-run-classes+else-has_run+then-not-has_entered w ↦ not-entered g all s r.act r.block r.class p are
             (sym w.has_entered.ensures.value ∙ w.if-not-has_entered.true)
       ];

@@ -9,7 +9,8 @@ pub push_class-requires : goal.push_class-requires
 push_class-requires c =
     let b = c.args.block.now in
     let here : c.loop-class.class < length c.in_ok-parts.parts = omega (arith, c.classes-class-end.ensures.value) in
-    let within : c.loop-class.class < length (partition_of b) = subst (λ (ps : List (List ℕ)). c.loop-class.class < length ps) c.in_ok-parts.ensures.value here in
+    let within : c.loop-class.class < length (partition_of b) = subst (λ (ps : List (List ℕ)). c.loop-class.class < length ps)
+    c.in_ok-parts.ensures.value here in
     let is : c.class.result.now ≡ class_at (partition_of b) c.loop-class.class =
     c.class.ensures.value ∙ ap (λ (ps : List (List ℕ)). class_at ps c.loop-class.class) c.in_ok-parts.ensures.value in
     record { in_range = class-inside b c.requires.block c.loop-class.class c.class.result.now within is }
@@ -18,7 +19,8 @@ pub loop-class-preserved : goal.loop-class-preserved
 loop-class-preserved c =
     let b = c.args.block.now in
     let here : c.loop-class.class < length c.in_ok-parts.parts = omega (arith, c.classes-class-end.ensures.value) in
-    let within : c.loop-class.class < length (partition_of b) = subst (λ (ps : List (List ℕ)). c.loop-class.class < length ps) c.in_ok-parts.ensures.value here in
+    let within : c.loop-class.class < length (partition_of b) = subst (λ (ps : List (List ℕ)). c.loop-class.class < length ps)
+    c.in_ok-parts.ensures.value here in
     let is : c.class.result.now ≡ class_at (partition_of b) c.loop-class.class =
     c.class.ensures.value ∙ ap (λ (ps : List (List ℕ)). class_at ps c.loop-class.class) c.in_ok-parts.ensures.value in
     more-taken (class_line b) c.args.text.now.items (partition_of b) c.loop-class.class c.class.result.now _ _ within

@@ -4,7 +4,8 @@ use Rattle.tam_list.proofs.block_sets.push_sets_line.Goals as goal
 
 pub members-requires : goal.members-requires
 members-requires c = record {
-  below = dependences-again c.args.block.now c.args.place (length c.vertices.result.now) c.args.inlets.now (ap length c.vertices.ensures.value) c.requires.depends;
+  below = dependences-again c.args.block.now c.args.place (length c.vertices.result.now) c.args.inlets.now (ap length c.vertices.ensures.value)
+      c.requires.depends;
 }
 
 pub members-requires-2 : goal.members-requires-2

@@ -9,10 +9,13 @@ pub loop-node-preserved : goal.loop-node-preserved
 loop-node-preserved c =
     let k = c.args.code.now in
     let there : (c.loop-node.node-index < length k.nodes) × (c.node-item.result ≡ get_or k.nodes c.loop-node.node-index c.node-item.result) =
-    subst (λ (ns : List Node). (c.loop-node.node-index < length ns) × (c.node-item.result ≡ get_or ns c.loop-node.node-index c.node-item.result)) c.nodes-nodes.ensures.value
+    subst (λ (ns : List Node). (c.loop-node.node-index < length ns) × (c.node-item.result ≡ get_or ns c.loop-node.node-index c.node-item.result))
+    c.nodes-nodes.ensures.value
     (c.loop-node-test.true, c.node-item.is) in
-    let here = vertices-there k c.loop-node.node-index c.node-item.result c.vertices_of-count.result there.0 there.1 c.vertices_of-count.ensures.value in
-    (sum-more (vertices_at k) c.loop-node.node-index _ _ c.loop-node.invariant.0 here, omega (arith, c.loop-node.invariant.1, here, few-at k c.loop-node.node-index))
+    let here = vertices-there k c.loop-node.node-index c.node-item.result c.vertices_of-count.result there.0 there.1 c.vertices_of-count.ensures.value in (
+      sum-more (vertices_at k) c.loop-node.node-index _ _ c.loop-node.invariant.0 here,
+      omega (arith, c.loop-node.invariant.1, here, few-at k c.loop-node.node-index),
+    )
 
 pub returns-clause-value : goal.returns-clause-value
 returns-clause-value c =

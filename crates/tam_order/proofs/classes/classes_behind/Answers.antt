@@ -74,8 +74,10 @@ loop-place-preserved-then-from-to c =
     let inside = edge-inside c.args.b.now c.edges-edges.ensures.block k (0, 0) (let l = ap length c.edges-edges.ensures.value in omega (arith, l)) in
     let from_small : e.0 < n = let read = ap (λ (fs : Edges). (get_or fs k (0, 0)).0) c.edges-edges.ensures.value in omega (arith, inside.0, read) in
     let to_small : e.1 < n = let read = ap (λ (fs : Edges). (get_or fs k (0, 0)).1) c.edges-edges.ensures.value in omega (arith, inside.1, read) in
-    let from : slice_index c.args.numbers.now e.0 ≡ class_of ps e.0 = ap (λ xs. slice_index xs e.0) c.requires.numbers ∙ numbers-at (class_of ps) n e.0 from_small in
-    let to : slice_index c.args.numbers.now e.1 ≡ class_of ps e.1 = ap (λ xs. slice_index xs e.1) c.requires.numbers ∙ numbers-at (class_of ps) n e.1 to_small in
+    let from : slice_index c.args.numbers.now e.0 ≡ class_of ps e.0 = ap (λ xs. slice_index xs e.0) c.requires.numbers
+    ∙ numbers-at (class_of ps) n e.0 from_small in
+    let to : slice_index c.args.numbers.now e.1 ≡ class_of ps e.1 = ap (λ xs. slice_index xs e.1) c.requires.numbers
+    ∙ numbers-at (class_of ps) n e.1 to_small in
     let one = c.requires.whole.in_one e.0 from_small in
     let before = c.loop-place.invariant in
     let d = c.index_mut.result.now in
@@ -101,6 +103,8 @@ loop-place-preserved c =
     let inside = edge-inside c.args.b.now c.edges-edges.ensures.block k (0, 0) (let l = ap length c.edges-edges.ensures.value in omega (arith, l)) in
     let from_small : e.0 < n = let read = ap (λ (fs : Edges). (get_or fs k (0, 0)).0) c.edges-edges.ensures.value in omega (arith, inside.0, read) in
     let to_small : e.1 < n = let read = ap (λ (fs : Edges). (get_or fs k (0, 0)).1) c.edges-edges.ensures.value in omega (arith, inside.1, read) in
-    let from : slice_index c.args.numbers.now e.0 ≡ class_of ps e.0 = ap (λ xs. slice_index xs e.0) c.requires.numbers ∙ numbers-at (class_of ps) n e.0 from_small in
-    let to : slice_index c.args.numbers.now e.1 ≡ class_of ps e.1 = ap (λ xs. slice_index xs e.1) c.requires.numbers ∙ numbers-at (class_of ps) n e.1 to_small in
+    let from : slice_index c.args.numbers.now e.0 ≡ class_of ps e.0 = ap (λ xs. slice_index xs e.0) c.requires.numbers
+    ∙ numbers-at (class_of ps) n e.0 from_small in
+    let to : slice_index c.args.numbers.now e.1 ≡ class_of ps e.1 = ap (λ xs. slice_index xs e.1) c.requires.numbers
+    ∙ numbers-at (class_of ps) n e.1 to_small in
     c.loop-place.invariant ∙ behind-same rest e (drop k es) ps (length ps) next (sym from ∙ (c.if-from-to.false ∙ to))

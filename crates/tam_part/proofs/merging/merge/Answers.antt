@@ -22,7 +22,8 @@ returns-clause-ways c =
     let parts = partition-parts b p c.requires.whole in
     let one = member-class (length b.vertices) p parts c.args.k c.place_of-one.result c.place_of-one.ensures.member in
     let other = member-class (length b.vertices) p parts c.args.l c.place_of-other.result c.place_of-other.ensures.member in
-    let here : c.index-ways-one.result ≡ way_in c.args.ways.now c.place_of-one.result = c.index-ways-one.is ∙ get_or_default c.args.ways.now c.place_of-one.result
+    let here : c.index-ways-one.result ≡ way_in c.args.ways.now c.place_of-one.result = c.index-ways-one.is
+    ∙ get_or_default c.args.ways.now c.place_of-one.result
     c.index-ways-one.result no_ways (omega (arith, one.1, c.requires.ways.count)) in
     let there : c.index-ways-other.result ≡ way_in c.args.ways.now c.place_of-other.result = c.index-ways-other.is ∙ get_or_default c.args.ways.now
     c.place_of-other.result c.index-ways-other.result no_ways (omega (arith, other.1, c.requires.ways.count)) in

@@ -60,7 +60,8 @@ loop-k-preserved-in-Some c =
     let long : length c.merge.new.p ≡ length (merged c.loop-k.parts c.in-Some.first c.in-Some.second) = ap length c.merge.ensures.value in
     record {
       between = merged-on c.args.b.now c.loop-k.parts c.merge.new.p c.in-Some.first c.in-Some.second c.loop-k.invariant.between pair c.merge.ensures.value;
-      ways = subst (λ (ws : List Ways). AreWays c.args.b.now c.merge.new.p ws) (sym (with_items_is c.loop-k.ways c.merge.new.ways ways_kept)) c.merge.ensures.ways;
+      ways = subst (λ (ws : List Ways). AreWays c.args.b.now c.merge.new.p ws) (sym (with_items_is c.loop-k.ways c.merge.new.ways ways_kept))
+          c.merge.ensures.ways;
       separated = subst (λ (ss : List (List ℕ)). AreSeparated c.args.b.now c.merge.new.p ss) (sym (with_items_is apart c.merge.new.apart apart_kept))
           c.merge.ensures.separated;
       done = subst (λ (qs : Parts). AreDone c.args.b.now qs c.in-Some.first) (sym c.merge.ensures.value)
@@ -81,7 +82,8 @@ loop-k-preserved c =
     record {
       between = c.loop-k.invariant.between;
       ways = c.loop-k.invariant.ways;
-      separated = subst (λ (ss : List (List ℕ)). AreSeparated c.args.b.now c.loop-k.parts ss) (sym (with_items_is c.loop-k.apart c.partner.new.apart apart_kept))
+      separated = subst (λ (ss : List (List ℕ)). AreSeparated c.args.b.now c.loop-k.parts ss)
+          (sym (with_items_is c.loop-k.apart c.partner.new.apart apart_kept))
           c.partner.ensures.separated;
       done = c.partner.ensures.done (none-is c.partner.result c.in_default.is);
       few = c.loop-k.invariant.few;
@@ -92,8 +94,10 @@ pub returns-clause-value : goal.returns-clause-value
 returns-clause-value c =
     ended c.args.b.now c.loop-k.parts c.loop-k.invariant.between
     (sym (pair-none (may_merge c.args.b.now c.loop-k.parts) (length c.loop-k.parts) (λ a d order within. c.loop-k.invariant.done a d
-    (omega (arith, order, within, c.loop-k-test.false, c.classes.ensures.value)) order within (λ e. omega (arith, e, within, c.loop-k-test.false, c.classes.ensures.value)))))
+    (omega (arith, order, within, c.loop-k-test.false, c.classes.ensures.value)) order within
+    (λ e. omega (arith, e, within, c.loop-k-test.false, c.classes.ensures.value)))))
 
 pub returns-clause-stuck : goal.returns-clause-stuck
 returns-clause-stuck c a d order within = c.loop-k.invariant.done a d
-    (omega (arith, order, within, c.loop-k-test.false, c.classes.ensures.value)) order within (λ e. omega (arith, e, within, c.loop-k-test.false, c.classes.ensures.value))
+    (omega (arith, order, within, c.loop-k-test.false, c.classes.ensures.value)) order within
+    (λ e. omega (arith, e, within, c.loop-k-test.false, c.classes.ensures.value))

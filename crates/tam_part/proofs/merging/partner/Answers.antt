@@ -66,7 +66,8 @@ returns-then-joins-clause-least c =
     (own b p c.requires.whole c.args.k c.place_of-place.result c.place_of-place.ensures.member)) ∙ (sym c.joins.ensures.value ∙ c.if-joins.true) in
     sym (pair-first (may_merge b p) (length p) c.loop-j.j c.args.k c.loop-j-test.true c.requires.in_range met
     (record {
-      rows = λ a d low order within. row b p c.args.k c.loop-j.j c.requires.done c.loop-j.invariant.here a d low (omega (arith, low, c.loop-j-test.true)) order within;
+      rows = λ a d low order within. row b p c.args.k c.loop-j.j c.requires.done c.loop-j.invariant.here a d low
+          (omega (arith, low, c.loop-j-test.true)) order within;
       here = λ d above low. c.requires.done c.loop-j.j d c.loop-j-test.true above (omega (arith, low, c.requires.in_range)) (λ e. omega (arith, low, e));
     }))
 

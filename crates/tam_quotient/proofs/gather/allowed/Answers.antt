@@ -24,7 +24,8 @@ loop-place-preserved c =
     let inlet : ℕ → Bool = has c.args.inlets.now in
     let test : ℕ → ℕ → Bool = is_met c.args.classes.now c.args.ahead.now c.args.depends.now in
     let low : o < length c.args.depends.now = let l = c.requires.outlets n 0 c.loop-place-test.true in omega (arith, l, c.requires.depends) in
-    let next = ap (λ xs. permitted c.args.inlets.now xs c.args.classes.now c.args.ahead.now c.args.depends.now) (sym (take_more os n 0 c.loop-place-test.true)) in
+    let next = ap (λ xs. permitted c.args.inlets.now xs c.args.classes.now c.args.ahead.now c.args.depends.now)
+    (sym (take_more os n 0 c.loop-place-test.true)) in
     elim c.if-has.branch [
       | then-has w ↦
           let led = sym c.has.ensures.value ∙ w.if-has.true in

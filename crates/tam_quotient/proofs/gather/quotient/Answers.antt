@@ -2,7 +2,8 @@ use Rattle.std.proofs.Common.{◌∙◌, sym, ap, arith, length, map, List, ℕ}
 use Rattle.tam_word.specs.Lists.{below}
 use Rattle.tam_quotient.specs.Tables.{column}
 use Rattle.tam_quotient.proofs.Tabling.{length-table}
-use Rattle.tam_quotient.proofs.Surroundings.{few-classes, are_below, are_leads, leads-count, classes-count, depends-count, inlets_there, outlets_there, are_ways}
+use Rattle.tam_quotient.proofs.Surroundings.{few-classes, are_below, are_leads, leads-count, classes-count, depends-count, inlets_there}
+use Rattle.tam_quotient.proofs.Surroundings.{outlets_there, are_ways}
 use Rattle.tam_quotient.proofs.Surroundings.{depends-inlets}
 use Rattle.tam_quotient.proofs.gather.quotient.Goals as goal
 
@@ -42,7 +43,8 @@ each_way-requires-clause-inlets c =
 pub each_way-requires-clause-outlets : goal.each_way-requires-clause-outlets
 each_way-requires-clause-outlets c =
     outlets_there c.args.b.now c.edges.ensures.block c.args.p.now c.requires.whole (few-classes c.args.p.now c.classes.ensures.kept)
-    c.deref-4.result.now c.deref-5.result.now (c.deref-4.ensures.value ∙ c.in_ok-outlets.ensures.value) (c.deref-5.ensures.value ∙ c.in_ok-classes.ensures.value)
+    c.deref-4.result.now c.deref-5.result.now (c.deref-4.ensures.value ∙ c.in_ok-outlets.ensures.value)
+    (c.deref-5.ensures.value ∙ c.in_ok-classes.ensures.value)
 
 pub each_way-requires-clause-columns : goal.each_way-requires-clause-columns
 each_way-requires-clause-columns c = c.deref-7.ensures.value ∙ (c.in_ok-columns.ensures.value

@@ -56,11 +56,13 @@ pub returns : goal.returns
 returns c =
     let many = ap length c.vertices.ensures.value in
     let names : c.deref-5.result.now ≡ c.deref.result.now = c.deref-5.ensures.value ∙ sym c.deref.ensures.value in
-    let spread : c.deref-6.result.now ≡ map (λ k. places_where (reaches (renamed c.deref-5.result.now c.edges.result.now) k)) (below (length c.args.b.now.vertices)) =
+    let spread : c.deref-6.result.now ≡ map (λ k. places_where (reaches (renamed c.deref-5.result.now c.edges.result.now) k))
+    (below (length c.args.b.now.vertices)) =
     c.deref-6.ensures.value ∙ (c.in_ok-leads.ensures.value
     ∙ ap₂ (λ (xs : List ℕ) n. map (λ k. places_where (reaches (renamed xs c.edges.result.now) k)) (below n)) (sym names) many) in
     let same : c.deref-8.result.now ≡ map (column c.deref-6.result.now) (below (length c.deref-6.result.now)) = c.deref-8.ensures.value
-    ∙ (c.in_ok-columns.ensures.value ∙ ap (λ (ls : List (List ℕ)). map (column ls) (below (length ls))) (c.deref-2.ensures.value ∙ sym c.deref-6.ensures.value)) in
+    ∙ (c.in_ok-columns.ensures.value ∙ ap (λ (ls : List (List ℕ)). map (column ls) (below (length ls)))
+    (c.deref-2.ensures.value ∙ sym c.deref-6.ensures.value)) in
     record {
       value = c.in_ok-ways.ensures.value ∙ alone-ways c.args.b.now c.vertices.ensures.block c.vertices.ensures.few
           c.edges.result.now c.deref-5.result.now c.deref-6.result.now c.edges.ensures.value

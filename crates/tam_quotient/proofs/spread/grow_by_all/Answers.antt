@@ -20,5 +20,7 @@ loop-from-preserved c k h =
     let small : from < 512 = omega (arith, low, c.requires.few) in
     let there : k < length c.loop-from.sets = omega (arith, h, c.grow.auto.sets) in
     let target : to < length c.loop-from.sets = omega (arith, high, n) in
-    let grew = grown-more es from to k (set_at c.loop-from.sets to) (set_at c.loop-from.sets k) small (c.loop-from.invariant k there) (c.loop-from.invariant to target) in
-    c.grow.ensures.value k there ∙ (grew ∙ ap (λ ds. places_where (reaches ds k)) (sym (renamed-more c.args.names.now c.args.edges.now i c.loop-from-test.true)))
+    let grew = grown-more es from to k (set_at c.loop-from.sets to) (set_at c.loop-from.sets k) small (c.loop-from.invariant k there)
+    (c.loop-from.invariant to target) in
+    c.grow.ensures.value k there ∙ (grew ∙ ap (λ ds. places_where (reaches ds k))
+    (sym (renamed-more c.args.names.now c.args.edges.now i c.loop-from-test.true)))

@@ -14,7 +14,8 @@ count : (lent items : List (List ℕ)) (n : ℕ) → lent ≡ items → items �
 count lent items n e f = ap length (e ∙ f) ∙ length-table (λ k. with_place k []) n
 
 -- each alone
-alone : (lent items : List (List ℕ)) (n k : ℕ) → lent ≡ items → items ≡ map (λ k. with_place k []) (below n) → k < n → set_at lent k ≡ places_where (reaches [] k)
+alone : (lent items : List (List ℕ)) (n k : ℕ) → lent ≡ items → items ≡ map (λ k. with_place k []) (below n) → k < n
+    → set_at lent k ≡ places_where (reaches [] k)
 alone lent items n k e f h = ap (λ xs. set_at xs k) (e ∙ f) ∙ (get-table (λ k. with_place k []) n k [] h ∙ alone-reaches k)
 
 pub grow_by_all-requires-clause-few : goal.grow_by_all-requires-clause-few

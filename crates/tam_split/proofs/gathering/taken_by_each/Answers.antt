@@ -10,7 +10,8 @@ loop-vertex-init c = rw c.new-taken.ensures.items tt
 
 pub loop-vertex-preserved : goal.loop-vertex-preserved
 loop-vertex-preserved c =
-    step-taken c.args.code.now c.args.vertices.now c.loop-vertex.vertex-index _ c.loop-vertex.taken.items c.push.new.self.items c.taken_by.result c.loop-vertex-test.true
+    step-taken c.args.code.now c.args.vertices.now c.loop-vertex.vertex-index _ c.loop-vertex.taken.items c.push.new.self.items c.taken_by.result
+    c.loop-vertex-test.true
     c.loop-vertex.invariant c.in_ok-push.ensures.items c.taken_by.ensures.same
 
 pub returns : goal.returns

@@ -9,11 +9,13 @@ use Rattle.tam_sets.proofs.SetBits.{bits-with, words-small}
 use Rattle.tam_sets.proofs.set.Set.insert.Goals as goal
 
 -- words of 64 bits of which one is set stay such words
-still-small : (ws : List ℕ) (i w : ℕ) → ((k : ℕ) → k < 8 → get_or ws k 0 < 2 ^ 64) → i < length ws → w < 2 ^ 64 → (k : ℕ) → k < 8 → get_or (set ws i w) k 0 < 2 ^ 64
+still-small : (ws : List ℕ) (i w : ℕ) → ((k : ℕ) → k < 8 → get_or ws k 0 < 2 ^ 64) → i < length ws → w < 2 ^ 64 → (k : ℕ) → k < 8
+    → get_or (set ws i w) k 0 < 2 ^ 64
 still-small ws i w h l s k m = go (k == i) refl
   where
     go : (t : Bool) → (k == i) ≡ t → get_or (set ws i w) k 0 < 2 ^ 64
-    go true p = let e : k ≡ i = number-eq k i p in subst (λ j. get_or (set ws i w) j 0 < 2 ^ 64) (sym e) (subst (λ v. v < 2 ^ 64) (sym (get_or-set_same ws i w 0 l)) s)
+    go true p = let e : k ≡ i = number-eq k i p in subst (λ j. get_or (set ws i w) j 0 < 2 ^ 64) (sym e)
+        (subst (λ v. v < 2 ^ 64) (sym (get_or-set_same ws i w 0 l)) s)
     go false p = subst (λ v. v < 2 ^ 64) (sym (get_or-set_other ws i k w 0 (number-differs k i p))) (h k m)
 
 pub invariant_of-self : goal.invariant_of-self
@@ -28,7 +30,8 @@ invariant_of-self c =
     record {
       count = count;
       small = words-small (set ws i w) count
-          (still-small ws i w (λ k l. c.self.invariant.small k 0 (omega arith)) there (or_lt 64 (get_or ws i 0) (1 * 2 ^ (c.args.place % 64) % 2 ^ 64) old bit));
+          (still-small ws i w (λ k l. c.self.invariant.small k 0 (omega arith)) there
+          (or_lt 64 (get_or ws i 0) (1 * 2 ^ (c.args.place % 64) % 2 ^ 64) old bit));
     }
 
 pub returns : goal.returns

@@ -8,7 +8,9 @@ pub invariant_of-result : goal.invariant_of-result
 invariant_of-result c = record {
   count = c.loop-k.invariant.0;
   small = words-small c.loop-k.words c.loop-k.invariant.0 (λ k l.
-      subst (λ w. w < 2 ^ 64) (sym (c.loop-k.invariant.1 k (omega arith))) (let s : get_or c.self.inside.words k 0 < 2 ^ 64 = c.self.invariant.small k 0 (omega arith) in let m = and_le_l (get_or c.self.inside.words k 0) (get_or c.o.inside.words k 0) in omega arith));
+      subst (λ w. w < 2 ^ 64) (sym (c.loop-k.invariant.1 k (omega arith)))
+      (let s : get_or c.self.inside.words k 0 < 2 ^ 64 = c.self.invariant.small k 0 (omega arith) in
+      let m = and_le_l (get_or c.self.inside.words k 0) (get_or c.o.inside.words k 0) in omega arith));
 }
 
 pub returns : goal.returns

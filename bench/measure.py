@@ -2,7 +2,7 @@
 
 usage: measure.py PROGRAM [PART ..]
 
-The parts of the program `tam` are `runs`, `words`, `texts`, `hostile`, `blocks`, `threads`, `made` and `assembly`; without one all of these are
+The parts of the program `tam` are `runs`, `words`, `texts`, `hostile`, `blocks`, `threads`, `made`, `assembly` and `large`; without one all of these are
 measured. The part `loops` is measured on the program of that name (crates/loops). Each line of output is a row of RESULTS.md. A time is the least of
 several runs, memory the least address space within which the run still has its status and output.
 """
@@ -40,7 +40,7 @@ def runs_of(program, words):
 
 def least_memory(program, words, end):
     """The least address space in KiB within which the run still has that status and output."""
-    low, high = 0, 1 << 21
+    low, high = 0, 1 << 22
     while high - low > max(16, low // 64):
         middle = (low + high) // 2
         if run_once(program, words, middle)[1] == end:
@@ -60,15 +60,15 @@ def events_of(output):
 
 def measure(program, mode, label, text, words):
     """One row: what, bytes, status, events, milliseconds, events a second, KiB."""
-    with tempfile.NamedTemporaryFile("w", suffix=".dg", delete=False) as file:
-        file.write(text)
+    with tempfile.NamedTemporaryFile("wb", suffix=".dg", delete=False) as file:
+        file.write(text if isinstance(text, bytes) else text.encode())
     words = [mode, file.name, *words]
     runs = runs_of(program, words)
     end = runs[0][1]
     memory = least_memory(program, words, end)
     os.unlink(file.name)
     seconds = min(run[0] for run in runs)
-    events = events_of(end[1]) if mode in ("graph", "tl0") else None
+    events = events_of(end[1]) if mode in ("graph", "tl0", "rv32") else None
     rate = f"{events / seconds:.0f}" if events else ""
     print(f"| {mode}, {label} | {len(text)} | {end[0]} | {events or ''} | {seconds * 1000:.1f} | {rate} | {memory} |", flush=True)
 
@@ -80,7 +80,7 @@ def example(name):
 
 def measure_runs(program):
     room = ["--budget=4294967295", "--frames=16384", "--cells=4194304"]
-    for mode in ("graph", "tl0"):
+    for mode in ("graph", "tl0", "rv32"):
         for number in (15, 30, 60):
             measure(program, mode, f"wavefront of {number} by {number}", example("wavefront.dg"), [f"--args={number}", *room])
         for number in (14, 16, 18):
@@ -122,9 +122,10 @@ def measure_blocks(program):
 
 
 def measure_threads(program):
-    for count in (30, 60, 120, 240):
-        measure(program, "emit-tl0", f"{count} codes of 128 vertices", texts.codes(count, 128), [])
-    measure(program, "emit-tl0", "a ladder of 200", texts.ladder(200), [])
+    for mode in ("emit-tl0", "emit-image", "emit-asm"):
+        for count in (30, 60, 120, 240):
+            measure(program, mode, f"{count} codes of 128 vertices", texts.codes(count, 128), [])
+        measure(program, mode, "a ladder of 200", texts.ladder(200), [])
 
 
 def measure_made(program):
@@ -143,6 +144,13 @@ def measure_made(program):
 def measure_assembly(program):
     for size in (1 << 20, 1 << 21, 1 << 22):
         measure(program, "assemble", f"{size >> 20} MB", texts.assembly(size), [])
+
+
+def measure_large(program):
+    """Inputs as large as they may be, that are refused at their end or answered: thread code, assembly and images of up to 64 MB."""
+    for size in (1 << 24, 1 << 25, 1 << 26):
+        for mode, label, content in texts.large(size):
+            measure(program, mode, f"{label}, {size >> 20} MB", content, [])
 
 
 def measure_loops(program):
@@ -175,6 +183,7 @@ def measure_loops(program):
 
 PARTS = {
     "assembly": measure_assembly,
+    "large": measure_large,
     "runs": measure_runs,
     "words": measure_words,
     "texts": measure_texts,

@@ -166,3 +166,23 @@ def assembly(size):
         used += sum(len(line) + 1 for line in group)
         number += 1
     return "\n".join(lines) + "\n"
+
+
+def large(size):
+    """Large inputs of the modes that may read 64 MB, each with its mode and what it is: answered, or refused at its very end."""
+    head = "tl0 2\ncodes 1 main 0\ncode 0 0 2\nthread 1\n"
+    forks = "fork 0\n" * ((size - len(head) - 30) // 7)
+    yield "exec-tl0", "a text of thread code with a fault on its last line", head + forks + "stop\nend\nend\n"
+    yield "exec-tl0", "a text of thread code in one line", "tl0 2\ncodes 1 main 0\n" + "code " * (size // 5 - 10)
+    asm = ".image 1\n.stride 32\n.params 0\n.results 0\n"
+    rows = "addi x1, x1, 1\n" * ((size - len(asm) - 30) // 15)
+    yield "assemble", "an assembly text with a fault on its last line", asm + rows + "addi x1, x0\n"
+    yield "assemble", "an assembly text", asm + rows
+    yield "assemble", "an assembly text of labels", asm + "".join(f"l{place}:\n" for place in range((size - len(asm) - 20) // 10)) + "ebreak\n"
+    yield "assemble", "an assembly text of commas in one line", asm + "addi " + "," * (size - len(asm) - 10) + "\n"
+    count = (size - 24) // 4 - 8
+    words = b"\x13\x00\x00\x00" * (count - 1) + b"\x73\x00\x10\x00"
+    fields = (0x494D4154, 1, count, 32, 0, 0)
+    image = b"".join(field.to_bytes(4, "little") for field in fields) + words
+    yield "exec-rv32", "an image", image
+    yield "exec-rv32", "an image with a byte too many", image + b"\0"

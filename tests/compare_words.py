@@ -1,10 +1,11 @@
 #!/usr/bin/env python3
-"""Compares the words that the program assembles with those of GNU binutils for RISC-V.
+"""Compares the words that the program assembles and makes with those of GNU binutils for RISC-V.
 
 usage: compare_words.py PROGRAM [SEED]
 
 Every instruction at the edges of its fields and some thousand random ones go through `PROGRAM assemble` and through the
-first assembler `riscv64-*-as` or `riscv32-*-as` on the machine. Prints a line for each word that differs, and last
+first assembler `riscv64-*-as` or `riscv32-*-as` on the machine. So does the text that `PROGRAM emit-asm` writes of each
+graph in examples/, against the words of `PROGRAM emit-image`. Prints a line for each word that differs, and last
 'N words agree, M differ'. Where no such assembler is installed it says so, and compares nothing.
 """
 
@@ -102,6 +103,25 @@ def words_of_binutils(tools, rows, folder):
         return file.read()
 
 
+def shown(line):
+    """How binutils writes a line of a printed text: targets from where they stand, and a fence by its word."""
+    name, operands = line.split(" ", 1) if " " in line else (line, "")
+    parts = operands.split(", ")
+    if name in ON_BRANCH or name == "jal":
+        return f"{name} {', '.join(parts[:-1])}, . + {parts[-1]}"
+    if name == "fence":
+        rd, rs1, bits = int(parts[0][1:]), int(parts[1][1:]), int(parts[2])
+        return f".word {bits << 20 | rs1 << 15 | rd << 7 | 0x0F}"
+    return line
+
+
+def written(program, mode, graph):
+    run = subprocess.run([program, mode, graph], stdout=subprocess.PIPE, check=False)
+    if run.returncode != 0:
+        sys.exit(f"{mode} {graph} failed: {run.stdout.decode()}")
+    return run.stdout
+
+
 def words_of_ours(program, rows, folder):
     source = os.path.join(folder, "a.asm")
     with open(source, "w") as file:
@@ -113,6 +133,21 @@ def words_of_ours(program, rows, folder):
     return run.stdout[HEAD:]
 
 
+def compared(rows, ours, theirs):
+    """How many words agree, and how many don't; the latter are printed."""
+    agree = 0
+    differ = 1 if len(ours) != len(theirs) else 0
+    if differ:
+        print(f"{len(ours)} bytes, not {len(theirs)}")
+    for row, one, other in zip(rows, struct.iter_unpack("<I", ours), struct.iter_unpack("<I", theirs)):
+        if one == other:
+            agree += 1
+        else:
+            differ += 1
+            print(f"{row}: {one[0]:#010x}, not {other[0]:#010x}")
+    return agree, differ
+
+
 def main():
     program = os.path.abspath(sys.argv[1])
     seed = int(sys.argv[2]) if len(sys.argv) > 2 else 1
@@ -121,20 +156,17 @@ def main():
         print("no assembler of GNU binutils for RISC-V is installed: nothing was compared")
         return 0
     rows = edges() + random_rows(random.Random(seed), 5000)
+    graphs = sorted(glob.glob(os.path.join(os.path.dirname(os.path.abspath(__file__)), "..", "examples", "*.dg")))
+    agree = differ = 0
     with tempfile.TemporaryDirectory() as folder:
         ours = words_of_ours(program, rows, folder)
         theirs = words_of_binutils(tools, rows, folder)
-    agree = differ = 0
-    for place, (row, _) in enumerate(rows):
-        one, other = (struct.unpack_from("<I", bytes_, 4 * place)[0] for bytes_ in (ours, theirs))
-        if one == other:
-            agree += 1
-        else:
-            differ += 1
-            print(f"{row}: {one:#010x}, not {other:#010x}")
-    if len(ours) != len(theirs):
-        differ += 1
-        print(f"{len(ours)} bytes, not {len(theirs)}")
+        agree, differ = compared([row for row, _ in rows], ours, theirs)
+        for graph in graphs:
+            lines = written(program, "emit-asm", graph).decode().splitlines()[4:]
+            theirs = words_of_binutils(tools, [(line, shown(line)) for line in lines], folder)
+            same, other = compared(lines, written(program, "emit-image", graph)[HEAD:], theirs)
+            agree, differ = agree + same, differ + other
     print(f"{agree} words agree, {differ} differ")
     return 1 if differ else 0
 

@@ -96,6 +96,17 @@ CASES = [
     ["tl0", "examples/branches.dg", "--args=1,4"],
     ["tl0", "examples/wavefront.dg", "--args=6"],
     ["tl0", "RESULTS", "--args=7"],
+    ["tl0", "examples/cell.dg", "--args=9"],
+    ["rv32", "examples/branches.dg", "--args=1,4"],
+    ["rv32", "examples/cell.dg", "--args=9"],
+    ["rv32", "examples/wavefront.dg", "--args=6"],
+    ["rv32", "RESULTS", "--args=7"],
+    ["graph", "LATE", "--args=6"],
+    ["tl0", "LATE", "--args=6"],
+    ["rv32", "LATE", "--args=6"],
+    ["graph", "examples/wavefront.dg", "--args=16"],
+    ["tl0", "examples/wavefront.dg", "--args=16"],
+    ["rv32", "examples/wavefront.dg", "--args=16"],
     ["check", "examples/wavefront.dg"],
     ["check", "REFUSED"],
     ["check", "LARGE"],
@@ -103,14 +114,27 @@ CASES = [
     ["sets", "examples/feedback.dg"],
     ["parts", "examples/wavefront.dg"],
     ["emit-tl0", "examples/branches.dg"],
+    ["emit-asm", "examples/branches.dg"],
+    ["emit-image", "examples/branches.dg"],
     ["assemble", "ASSEMBLY"],
     ["assemble", "REFUSED"],
     ["exec-tl0", "THREADS", "--args=2,3"],
     ["exec-tl0", "WILD"],
     ["exec-tl0", "REFUSED"],
+    ["exec-rv32", "IMAGE"],
+    ["exec-rv32", "TRAP"],
+    ["exec-rv32", "REFUSED"],
     ["make", "ladder", "2"],
     ["make", "wave", "4"],
 ]
+
+def image(results, *words):
+    """The file of an image of these words."""
+    numbers = [0x494D4154, 1, len(words), 32, 0, results, *words]
+    return b"".join(number.to_bytes(4, "little") for number in numbers)
+
+
+SUM = "dg 1\ncode main\na = param 0\nb = param 1\ns = add a b\nresult 0 s\nend\n"
 
 FILES = {
     "ORDER": "1\nr\n0\n",
@@ -119,7 +143,12 @@ FILES = {
     "RESULTS": "dg 1\ncode main\na = param 0\n" + "".join(f"result {place} a\n" for place in range(12)) + "end\n",
     "THREADS": "tl0 2\ncodes 1 main 0\ncode 2 1 5\ninlet 2 1\ninlet 3 1\nthread 1\nstop\nthread 2\nadd 4 2 3\nret 0 4\nstop\nend\n",
     "WILD": "tl0 2\ncodes 1 main 0\ncode 0 1 2\nthread 1\nret 0 1\nret 0 1\nstop\nend\n",
+    "LATE": "dg 1\ncode main\nn = const 1\nA:1 = alloc n\nz = const 0\nv = fetch A z\nx = param 0\ny = add x n\nresult 0 v\nresult 1 y\nend\n",
     "ASSEMBLY": ".image 1\n.stride 32\n.params 0\n.results 0\non:\naddi x5, x5, 1\nbne x5, x0, on\n.word 7\n",
+    # addi x17, x0, 1; addi x10, x0, -1; ecall, which sends 0 outside as result 0; addi x17, x0, 0; addi x10, x0, 0; ecall; ecall
+    "IMAGE": image(1, 0x00100893, 0xFFF00513, 0x73, 0x00000893, 0x00000513, 0x73, 0x73),
+    # ebreak
+    "TRAP": image(0, 0x00100073),
 }
 
 
@@ -146,8 +175,8 @@ class Tried:
         lines = self.answer[1].splitlines(keepends=True)
         if self.words[0] != "make":
             lines = [line for line in lines if line.startswith(b"result ")]
-        fronts = [b"".join(lines[:count]) + b"no memory\n" for count in range(len(lines) + 1)]
-        return answer == self.answer or status == 11 and (text == b"" or text in fronts)
+        prefixes = [b"".join(lines[:count]) + b"no memory\n" for count in range(len(lines) + 1)]
+        return answer == self.answer or status == 11 and (text == b"" or text in prefixes)
 
     def refuse(self, kind):
         """The numbers of calls that were refused, and the answers that aren't right."""
@@ -163,6 +192,24 @@ class Tried:
         few = [{"MOST_READ": "1"}, {"MOST_READ": "7"}, {"MOST_WRITE": "1"}, {"MOST_WRITE": "7", "MOST_READ": "3"}]
         answers = [(failures, self.run(failures)[0]) for failures in few]
         return len(few), [("short", failures, answer) for failures, answer in answers if answer != self.answer]
+
+
+def byte_by_byte(program, folder):
+    """A file that comes byte by byte, and a text that goes so: each call of them fails once, and the one behind the last doesn't matter."""
+    with open(os.path.join(folder, "SUM"), "w") as file:
+        file.write(SUM)
+    tried = Tried(program, ["tl0", os.path.join(folder, "SUM"), "--args=2,3"], folder)
+    status, text = tried.answer
+    wrong = [("sum", tried.answer)] if (status, len(text)) != (0, 50) else []
+    for number in range(1, len(text) + 2):
+        answer = tried.run({"MOST_WRITE": "1", "REFUSED_WRITE": str(number)})[0]
+        if answer != ((10, text[: number - 1]) if number <= len(text) else (0, text)):
+            wrong.append(("write", number, answer))
+    for number in range(1, len(SUM) + 3):
+        answer = tried.run({"MOST_READ": "1", "REFUSED_READ": str(number)})[0]
+        if answer != ((3, b"read fault\n") if number <= len(SUM) + 1 else (0, text)):
+            wrong.append(("read", number, answer))
+    return len(text) + len(SUM) + 3, wrong
 
 
 def words_of(case, folder):
@@ -187,8 +234,8 @@ def main():
             print("the library before the C library can't be built here: nothing is tried")
             return 0
         for name, text in FILES.items():
-            with open(os.path.join(folder, name), "w") as file:
-                file.write(text)
+            with open(os.path.join(folder, name), "wb") as file:
+                file.write(text if isinstance(text, bytes) else text.encode())
         for case in CASES:
             tried = Tried(program, words_of(case, folder), folder)
             done = [*(tried.refuse(kind) for kind in KINDS), tried.shorten()]
@@ -199,6 +246,9 @@ def main():
                 print(" ", row)
             passed += sum(count for count, _ in done) - len(wrong)
             failed += len(wrong)
+        count, wrong = byte_by_byte(program, folder)
+        print(f"byte by byte: {count} failures tried, {len(wrong)} wrong", *wrong[:9], sep="\n  ")
+        passed, failed = passed + count - len(wrong), failed + len(wrong)
     print(f"{passed} passed, {failed} failed")
     return 1 if failed else 0
 

@@ -1,12 +1,14 @@
 #!/usr/bin/env python3
 """Runs random graphs at every level under random orders, and compares the quiet runs with a plain evaluator of its own.
 
-usage: random_runs.py PROGRAM [--graphs N] [--seed N] [--levels graph,tl0] [--keep FOLDER]
+usage: random_runs.py PROGRAM [--graphs N] [--seed N] [--levels graph,tl0,rv32] [--keep FOLDER]
 
 Each graph is made at random from a seed: codes that call later codes or themselves with a counter, conditionals, arrays, and now and then a result of a call
 that feeds an argument of the same call. The evaluator below knows the rules alone: it fires what may fire until nothing may, in no order of any
 machine. For each level and order the run must be quiet, with exactly the results that the evaluator finds and `missing` for every other place, and with as many
-activations and cells; and `exec-tl0` of what `emit-tl0` writes must answer what `tl0` does. Prints a line for each difference, and last 'N passed, M failed'.
+activations and cells; what `rv32` writes must be what `tl0` writes with one line more, `instructions N`; `exec-tl0` of what `emit-tl0` writes must answer
+what `tl0` does, and `exec-rv32` of what `emit-image` writes what `rv32` does; and `assemble` must make that same file of what `emit-asm` writes. Prints a
+line for each difference, and last 'N passed, M failed'.
 """
 import argparse
 import os
@@ -352,7 +354,7 @@ def signed(word):
 
 
 def expected(run, results):
-    """The lines of a quiet run but for its events: results and missing ones, sorted, then the counts."""
+    """The lines of a quiet run but for its events and instructions: results and missing ones, sorted, then the counts."""
     lines = [f"result {place} = {signed(word)}" for place, word in run.results.items()]
     lines += [f"missing {place}" for place in range(results) if place not in run.results]
     lines += ["quiet", f"activations {len(run.activations)}", f"cells {sum(map(len, run.arrays))}"]
@@ -361,11 +363,56 @@ def expected(run, results):
 
 def answer(program, *words):
     run = subprocess.run([program, *words], stdin=subprocess.DEVNULL, stdout=subprocess.PIPE, timeout=60)
-    return run.returncode, run.stdout.decode()
+    return run.returncode, run.stdout
 
 
 def random_order(rng):
     return ",".join(rng.choice(["r", "r", str(rng.randint(0, 9))]) for _ in range(rng.randint(0, 400)))
+
+
+# the mode that writes the code of each level, and the one that runs it
+CODES = {"tl0": ("emit-tl0", "exec-tl0"), "rv32": ("emit-image", "exec-rv32")}
+
+
+def keep(name, content):
+    with open(name, "wb") as file:
+        file.write(content)
+
+
+class Graph:
+    """A graph in a file, and what the program answers of it at some levels; `wrong` tells each difference."""
+
+    def __init__(self, program, levels, folder, text):
+        self.program, self.levels, self.wrong, self.tried = program, levels, [], 0
+        self.graph, self.order, self.code = (os.path.join(folder, name) for name in ("graph.dg", "order", "code"))
+        keep(self.graph, text.encode())
+
+    def try_that(self, holds, what):
+        self.tried += 1
+        if not holds:
+            self.wrong.append(what)
+
+    def run(self, args, order, want):
+        """Each level under an order, and the code that is written of it."""
+        keep(self.order, order.encode())
+        words, answers = [f"--args={','.join(map(str, args))}", f"--order-file={self.order}"], {}
+        for level in sorted(self.levels):
+            answers[level] = status, text = answer(self.program, level, self.graph, *words)
+            lines = sorted(line for line in text.decode().splitlines() if not line.startswith(("events ", "instructions ")))
+            right = lines == want and status == (4 if any(line.startswith("missing") for line in want) else 0)
+            self.try_that(right, f"{level}: status {status}\n  want {want}\n  got  {lines}")
+        for level in sorted(self.levels & CODES.keys()):
+            emit, execute = CODES[level]
+            keep(self.code, answer(self.program, emit, self.graph)[1])
+            self.try_that(answer(self.program, execute, self.code, *words) == answers[level], f"{execute} differs from {level}")
+        if self.levels >= CODES.keys():
+            (status, text), (same, threads) = answers["rv32"], answers["tl0"]
+            self.try_that(status == same and text.splitlines()[:-1] == threads.splitlines(), "rv32 differs from tl0")
+
+    def assemble(self):
+        """The assembly text of its machine code."""
+        keep(self.code, answer(self.program, "emit-asm", self.graph)[1])
+        self.try_that(answer(self.program, "assemble", self.code) == answer(self.program, "emit-image", self.graph), "assemble differs from emit-image")
 
 
 def main():
@@ -373,14 +420,13 @@ def main():
     options.add_argument("program")
     options.add_argument("--graphs", type=int, default=40)
     options.add_argument("--seed", type=int, default=1)
-    options.add_argument("--levels", default="graph,tl0")
+    options.add_argument("--levels", default="graph,tl0,rv32")
     options.add_argument("--keep")
     options = options.parse_args()
-    program, levels = os.path.abspath(options.program), options.levels.split(",")
+    program, levels = os.path.abspath(options.program), set(options.levels.split(","))
     rng = random.Random(options.seed)
     passed = failed = 0
     with tempfile.TemporaryDirectory() as folder:
-        graph, order, code = (os.path.join(options.keep or folder, name) for name in ("graph.dg", "order", "code.tl0"))
         for number in range(options.graphs):
             while True:
                 text, (params, results) = make_graph(rng)
@@ -390,29 +436,16 @@ def main():
                     break
                 except OverflowError:
                     continue
-            with open(graph, "w") as file:
-                file.write(text)
+            graph = Graph(program, levels, options.keep or folder, text)
             for turn in range(3):
-                with open(order, "w") as file:
-                    file.write(random_order(rng) if turn else "")
-                words = [f"--args={','.join(map(str, args))}", f"--order-file={order}"]
-                for level in levels:
-                    status, got = answer(program, level, graph, *words)
-                    lines = sorted(line for line in got.splitlines() if not line.startswith("events "))
-                    right = lines == want and status == (4 if any(line.startswith("missing") for line in want) else 0)
-                    passed, failed = passed + right, failed + (not right)
-                    if not right:
-                        print(f"graph {number} of seed {options.seed}, order {turn}, {level}: status {status}\n  want {want}\n  got  {lines}")
-                        if options.keep:
-                            return 1
-                if "tl0" in levels:
-                    _, listing = answer(program, "emit-tl0", graph)
-                    with open(code, "w") as file:
-                        file.write(listing)
-                    same = answer(program, "exec-tl0", code, *words) == answer(program, "tl0", graph, *words)
-                    passed, failed = passed + same, failed + (not same)
-                    if not same:
-                        print(f"graph {number} of seed {options.seed}, order {turn}: exec-tl0 differs from tl0")
+                graph.run(args, random_order(rng) if turn else "", want)
+            if "rv32" in levels:
+                graph.assemble()
+            passed, failed = passed + graph.tried - len(graph.wrong), failed + len(graph.wrong)
+            for wrong in graph.wrong:
+                print(f"graph {number} of seed {options.seed}: {wrong}")
+            if graph.wrong and options.keep:
+                return 1
     print(f"{passed} passed, {failed} failed")
     return 1 if failed or not passed else 0
 

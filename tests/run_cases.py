@@ -5,11 +5,13 @@ usage: run_cases.py PROGRAM FOLDER
 
 Each file FOLDER/*.json is a list of cases. A case has `says` (what it shows), `words`, `files` (their text by name, or
 {"hex": ..}, {"example": NAME} of the folder examples, or {"repeat": [TEXT, COUNT], "behind": TEXT}), `stdout` and
-`status`. Prints a line for each case that differs, and last 'N passed, M failed'.
+`status`. One that is `uncounted` has N in the place of each number of instructions, which nothing outside the program told.
+Prints a line for each case that differs, and last 'N passed, M failed'.
 """
 import glob
 import json
 import os
+import re
 import subprocess
 import sys
 import tempfile
@@ -50,6 +52,8 @@ def main():
         for case in cases:
             want = (case["status"], content(case["stdout"]))
             got = answer(program, case)
+            if case.get("uncounted"):
+                got = (got[0], re.sub(rb"(?m)^instructions \d+$", b"instructions N", got[1]))
             if got == want:
                 passed += 1
             else:

@@ -2,4 +2,4 @@ mod MemoryWalks
 mod Blocks
 mod Sharing
 mod CellLemmas
-mod ListLemmas
+pub mod ListLemmas

@@ -1,6 +1,6 @@
 //! Cells of two words and a raw link in one block of memory, and the lists through them.
 //!
-//! Over no other crate of ours but the one that has `NoMemory`. Made for the frames of activations; no crate stands on it yet.
+//! Over no other crate of ours but the one that has `NoMemory`. The frames of activations stand on this crate.
 //! Read `specs/Cells.antt` and `specs/Lists.antt`: what the calls do to the cells, and to lists. Then `src/cell_table.rt`.
 //!
 //! A cell takes 16 bytes, and cell i begins 16 * i bytes into the block:

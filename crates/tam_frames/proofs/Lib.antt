@@ -1,4 +1,3 @@
-mod FrameLemmas
 mod QueueLemmas
 mod TableLemmas
 mod StoreLemmas
@@ -6,8 +5,14 @@ mod SizeLemmas
 mod ViewLemmas
 pub mod LiveLemmas
 mod TurnLemmas
-mod RowLemmas
 mod ChangeLemmas
 mod ShownLemmas
 mod ReadyLemmas
-mod FrameRowLemmas
+mod ListedLemmas
+mod CellLists
+mod HoldLemmas
+mod HoldChanges
+mod HoldReady
+mod PutLemmas
+mod FrameCellLemmas
+mod FrameBegins

@@ -1,9 +1,9 @@
 -- Which frames are live and which are busy, behind each step on a table.
 use Rattle.std.proofs.Common.{◌≡◌, ◌≢◌, ◌∙◌, sym, ap, refl, ℕ, zero, suc, true, false, true≢false, List, [], ◌∷◌, length, Option, Some, None}
 use Rattle.std.specs.Prelude.{slice_get, slice_set}
-use Rattle.tam_frames.specs.FrameTables.{Frame, FrameTable, or_frame, is_some_frame, is_live, frame_at, changed_in, changed, spent_of, spend_answer}
-use Rattle.tam_frames.specs.FrameTables.{with_new, next_number, next_number_of, given_back}
-use Rattle.tam_frames.specs.declared.spend.Spend.TheVariants.{Enabled}
+use Rattle.frame_tables.specs.FrameTables.{Frame, FrameTable, or_frame, is_some_frame, is_live, frame_at, changed_in, changed, spent_of, spend_answer}
+use Rattle.frame_tables.specs.FrameTables.{with_new, next_number, next_number_of, given_back}
+use Rattle.frame_tables.specs.declared.answers.Spend.TheVariants.{Enabled}
 use Rattle.tam_frames.specs.StoredFrames.{has_any, is_busy}
 use Rattle.tam_frames.proofs.TableLemmas.{get-set_other, get-push, live-there, busy-live}
 

@@ -7,7 +7,7 @@ use Rattle.std.specs.List.{count_by}
 use Rattle.std.proofs.lemmas.Bool.{cases_eq, cases_lt, eq-eqb}
 use Rattle.std.proofs.lemmas.List.{get_or-set_same, get_or-set_other, get_or_past, length-set, length-append}
 use Rattle.std.proofs.lemmas.List.Sums.{sum_by-set, count_by-le-length}
-use Rattle.tam_frames.specs.FrameTables.{is_queued}
+use Rattle.frame_tables.specs.FrameTables.{is_queued}
 use Rattle.tam_frames.specs.Kept.{IsDistinctQueue, AreQueued}
 
 -- equal numbers pass the test

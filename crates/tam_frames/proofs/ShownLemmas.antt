@@ -1,8 +1,20 @@
--- The live ones among all frames.
+-- The live ones among all frames, and a list of frames where one begins.
 use Rattle.std.proofs.Common.{◌≡◌, ap, refl, ℕ, zero, suc, ◌<◌, ◌≤◌, Bool, true, false, cond, List, [], ◌∷◌, ◌++◌, length, Option, Some, None, arith}
 use Rattle.std.specs.Prelude.{slice_get, slice_set}
-use Rattle.tam_frames.specs.FrameTables.{Frame, is_some_frame}
+use Rattle.frame_tables.specs.FrameTables.{Frame, is_some_frame}
+use Rattle.std.proofs.lemmas.Bool.{lt-ltb, le-ltb}
+use Rattle.tam_frames.specs.HeldFrames.{with_frame}
 use Rattle.tam_frames.specs.Kept.{shown}
+
+-- a frame that is there is another one
+pub with-there : (frames : List Frame) (f : ℕ) (h : Frame) → f < length frames → with_frame frames f h ≡ slice_set frames f h
+with-there frames f h within =
+    ap (λ (b : Bool). elim b [ true ↦ slice_set frames f h | false ↦ frames ++ h ∷ [] ]) (lt-ltb f (length frames) within)
+
+-- the next number is that of a frame more
+pub with-next : (frames : List Frame) (h : Frame) → with_frame frames (length frames) h ≡ frames ++ h ∷ []
+with-next frames h =
+    ap (λ (b : Bool). elim b [ true ↦ slice_set frames (length frames) h | false ↦ frames ++ h ∷ [] ]) (le-ltb (length frames) (length frames) (omega arith))
 
 -- there are as many places as marks
 pub length-shown : (lives : List Bool) (rows : List Frame) → length lives ≤ length rows → length (shown lives rows) ≡ length lives
@@ -52,14 +64,14 @@ shown-take (mark ∷ lives) [] (suc f) h = refl
 shown-take (mark ∷ lives) (k ∷ rows) zero h = refl
 shown-take (mark ∷ lives) (k ∷ rows) (suc f) h = ap (λ (l : List (Option Frame)). cond mark (Some k) None ∷ l) (shown-take lives rows f h)
 
--- the next row becomes a live frame
-pub shown-push : (lives : List Bool) (rows : List Frame) (h : Frame) → length lives < length rows
-    → shown (lives ++ true ∷ []) (slice_set rows (length lives) h) ≡ shown lives rows ++ Some h ∷ []
-shown-push [] [] h room = absurd (omega (arith, room))
-shown-push [] (k ∷ rows) h room = refl
-shown-push (mark ∷ lives) [] h room = absurd (omega (arith, room))
-shown-push (mark ∷ lives) (k ∷ rows) h room =
-    ap (λ (l : List (Option Frame)). cond mark (Some k) None ∷ l) (shown-push lives rows h (omega (arith, room)))
+-- a row more is a live frame
+pub shown-push : (lives : List Bool) (rows : List Frame) (h : Frame) → length rows ≡ length lives
+    → shown (lives ++ true ∷ []) (rows ++ h ∷ []) ≡ shown lives rows ++ Some h ∷ []
+shown-push [] [] h same = refl
+shown-push [] (k ∷ rows) h same = absurd (omega (arith, same))
+shown-push (mark ∷ lives) [] h same = absurd (omega (arith, same))
+shown-push (mark ∷ lives) (k ∷ rows) h same =
+    ap (λ (l : List (Option Frame)). cond mark (Some k) None ∷ l) (shown-push lives rows h (omega (arith, same)))
 
 -- what stands at a number is a frame where the number is marked
 pub shown-marked : (lives : List Bool) (rows : List Frame) (f : ℕ) (mark : Bool) → length lives ≤ length rows → slice_get lives f ≡ Some mark

@@ -1,8 +1,8 @@
 -- What is done to a frame leaves its size.
-use Rattle.std.proofs.Common.{◌≡◌, ◌∙◌, ap₂, subst, ℕ, zero, suc, ◌-◌, ◌<◌, ◌≤◌, List, [], ◌∷◌, ◌++◌, length, drop, replicate, Some, None, arith}
+use Rattle.std.proofs.Common.{◌≡◌, ◌∙◌, subst, ℕ, zero, suc, ◌-◌, ◌<◌, ◌≤◌, List, [], ◌∷◌, ◌++◌, length, drop, replicate, Some, None, arith}
 use Rattle.std.specs.Prelude.{slice_get, slice_set}
 use Rattle.std.proofs.lemmas.List.{length-set, length-append, length-replicate, length-take-le}
-use Rattle.tam_frames.specs.FrameTables.{Frame, new_frame}
+use Rattle.frame_tables.specs.FrameTables.{Frame, new_frame}
 use Rattle.tam_frames.specs.StoredFrames.{IsSized, frame_spent_of, frame_popped}
 
 module _ (slots threads : ℕ) where
@@ -21,10 +21,6 @@ module _ (slots threads : ℕ) where
       none-not-some t there = cc
 
   module _ (h : Frame) (sized : IsSized slots threads h) where
-    -- what it is when it begins
-    pub begun-is : (counts : List ℕ) → new_frame (length h.slots) (length h.counts) counts ≡ new_frame slots threads counts
-    begun-is counts = ap₂ (λ (n m : ℕ). new_frame n m counts) sized.slots_there sized.threads_there
-
     -- a slot is set
     pub sized-slot : (a w : ℕ) → IsSized slots threads (record h { slots = slice_set h.slots a w })
     sized-slot a w = record {

@@ -7,11 +7,11 @@ use Rattle.std.proofs.lemmas.Bool.{cases_eq}
 use Rattle.std.proofs.lemmas.List.{length-set, length_push, get_or-set_same}
 use Rattle.std.proofs.lemmas.Option.{slice_get_past, slice_get_within, get_or_from_slice_get}
 use Rattle.std.proofs.lemmas.List.Sums.{sum_by_push}
-use Rattle.tam_frames.specs.FrameTables.{Frame, no_frame, is_held, is_queued, is_live, is_some_frame, next_number, next_number_of}
+use Rattle.frame_tables.specs.FrameTables.{Frame, no_frame, is_held, is_queued, is_live, is_some_frame, next_number, next_number_of}
 use Rattle.tam_frames.specs.StoredFrames.{IsSized}
-use Rattle.tam_frames.specs.FrameRows.{AreSized}
+use Rattle.tam_frames.specs.HeldFrames.{AreSized}
 use Rattle.tam_frames.specs.Kept.{AreFree, Storage, IsStored, numbered, shown, shown_of}
-use Rattle.tam_frames.proofs.TableLemmas.{get-set_same, get-set_other, held-set}
+use Rattle.tam_frames.proofs.TableLemmas.{get-set_same, get-set_other, get-pushed, held-set}
 use Rattle.tam_frames.proofs.ShownLemmas.{length-shown, shown-live, shown-set, shown-free, shown-take, shown-push}
 use Rattle.tam_frames.proofs.QueueLemmas.{not-first, not-behind, queued-behind}
 
@@ -27,6 +27,14 @@ sized-set slots threads rows f new fits sized g h is = elim (cases_eq g f) [
       ∙ get_or_from_slice_get (slice_set rows f new) g h no_frame is in
       subst (IsSized slots threads) found fits
   | inr differ ↦ sized g h (sym (get-set_other rows f g new differ) ∙ is)
+]
+
+-- and behind them
+sized-push : (slots threads : ℕ) (rows : List Frame) (new : Frame) → IsSized slots threads new → AreSized slots threads rows
+    → AreSized slots threads (rows ++ new ∷ [])
+sized-push slots threads rows new fits sized g h is = elim (get-pushed rows g new h is) [
+  | inl there ↦ sized g h there
+  | inr same ↦ subst (IsSized slots threads) same fits
 ]
 
 -- where none of the free numbers is f, they stay free whatever f has
@@ -60,7 +68,7 @@ next-free {s} is = go s.free is.are_free
 module _ {s : Storage} (is : IsStored s) where
   -- each number has a place, and as many places are live as frames
   pub length-places : length (shown_of s) ≡ length s.lives
-  length-places = length-shown s.lives s.rows (omega (arith, is.few, is.rows_there))
+  length-places = length-shown s.lives s.rows (omega (arith, is.rows_there))
 
   -- no more frames are live than there are
   pub used-few : s.used ≤ s.count
@@ -76,6 +84,7 @@ module _ {s : Storage} (is : IsStored s) (f : ℕ) (h : Frame) (there : slice_ge
   stored-kept new fits = record {
     sized = sized-set s.slots s.threads s.rows f new fits is.sized;
     rows_there = length-set s.rows f new ∙ is.rows_there;
+    rows_fit = is.rows_fit;
     are_free = subst (λ (l : List (Option Frame)). AreFree l s.free) (sym shows) (free-beside (shown_of s) f (Some new) s.free absent is.are_free);
     free_counted = omega (arith, is.free_counted, count, ap (λ (l : List (Option Frame)). count_by is_held l) shows);
     used_counted = omega (arith, is.used_counted, count, ap (λ (l : List (Option Frame)). count_by is_held l) shows);
@@ -107,7 +116,8 @@ module _ {s : Storage} (is : IsStored s) (f : ℕ) (h : Frame) (there : slice_ge
   pub stored-given : IsStored (record s { lives = slice_set s.lives f false; free = f ∷ s.free; used = s.used - 1 })
   stored-given = record {
     sized = is.sized;
-    rows_there = is.rows_there;
+    rows_there = omega (arith, is.rows_there, length-set s.lives f false);
+    rows_fit = is.rows_fit;
     are_free = subst (λ (l : List (Option Frame)). AreFree l (f ∷ s.free)) (sym shows)
         (get-set_same (shown_of s) f None (Some h) there, (absent, free-beside (shown_of s) f None s.free absent is.are_free));
     free_counted = omega (arith, is.free_counted, less, length-set s.lives f false, count);
@@ -143,7 +153,8 @@ module _ {s : Storage} (is : IsStored s) where
         → IsStored (record s { rows = slice_set s.rows f new; lives = slice_set s.lives f true; free = free; used = s.used + 1 })
     stored-taken f free free_is = record {
       sized = sized-set s.slots s.threads s.rows f new fits is.sized;
-      rows_there = length-set s.rows f new ∙ is.rows_there;
+      rows_there = omega (arith, is.rows_there, length-set s.rows f new, length-set s.lives f true);
+      rows_fit = is.rows_fit;
       are_free = subst (λ (l : List (Option Frame)). AreFree l free) (sym shows) (free-beside (shown_of s) f (Some new) free are.1.0 are.1.1);
       free_counted = omega (arith, is.free_counted, taken, length-set s.lives f true, ap (λ (l : List ℕ). length l) free_is);
       used_counted = omega (arith, is.used_counted, taken);
@@ -164,10 +175,11 @@ module _ {s : Storage} (is : IsStored s) where
 
     -- storage of which it was taken, for a number that was never used
     pub stored-grown : s.free ≡ [] → s.used < s.count
-        → IsStored (record s { rows = slice_set s.rows (length s.lives) new; lives = s.lives ++ true ∷ []; free = []; used = s.used + 1 })
+        → IsStored (record s { rows = s.rows ++ new ∷ []; lives = s.lives ++ true ∷ []; free = []; used = s.used + 1 })
     stored-grown free_is room = record {
-      sized = sized-set s.slots s.threads s.rows (length s.lives) new fits is.sized;
-      rows_there = length-set s.rows (length s.lives) new ∙ is.rows_there;
+      sized = sized-push s.slots s.threads s.rows new fits is.sized;
+      rows_there = omega (arith, is.rows_there, length_push s.rows new, length_push s.lives true);
+      rows_fit = is.rows_fit;
       are_free = tt;
       free_counted = omega (arith, is.free_counted, taken, length_push s.lives true, none_free);
       used_counted = omega (arith, is.used_counted, taken);
@@ -180,9 +192,9 @@ module _ {s : Storage} (is : IsStored s) where
         none_free : length s.free ≡ 0
         none_free = ap (λ (l : List ℕ). length l) free_is
 
-        shows : shown (s.lives ++ true ∷ []) (slice_set s.rows (length s.lives) new) ≡ shown_of s ++ Some new ∷ []
-        shows = shown-push s.lives s.rows new (omega (arith, count-grown free_is room, is.rows_there))
+        shows : shown (s.lives ++ true ∷ []) (s.rows ++ new ∷ []) ≡ shown_of s ++ Some new ∷ []
+        shows = shown-push s.lives s.rows new is.rows_there
 
-        taken : count_by is_held (shown (s.lives ++ true ∷ []) (slice_set s.rows (length s.lives) new)) ≡ count_by is_held (shown_of s) + 1
+        taken : count_by is_held (shown (s.lives ++ true ∷ []) (s.rows ++ new ∷ [])) ≡ count_by is_held (shown_of s) + 1
         taken = ap (λ (l : List (Option Frame)). count_by is_held l) shows
             ∙ sum_by_push (λ (o : Option Frame). cond {A = ℕ} (is_held o) 1 0) (shown_of s) (Some new)

@@ -4,7 +4,7 @@ use Rattle.std.specs.Prelude.{slice_get, slice_set, ◌⊎◌, count_by}
 use Rattle.std.proofs.Common.{inl, inr}
 use Rattle.std.proofs.lemmas.Option.{slice_get_within, get_or_from_slice_get}
 use Rattle.std.proofs.lemmas.List.Sums.{sum_by-set}
-use Rattle.tam_frames.specs.FrameTables.{Frame, FrameTable, or_frame, is_some_frame, is_held, is_live, frame_at, changed_in}
+use Rattle.frame_tables.specs.FrameTables.{Frame, FrameTable, or_frame, is_some_frame, is_held, is_live, frame_at, changed_in}
 use Rattle.tam_frames.specs.StoredFrames.{has_any, is_busy}
 
 module _ {X : Type 0} where

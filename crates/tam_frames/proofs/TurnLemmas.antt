@@ -1,8 +1,8 @@
 -- What is kept of turns, behind each step.
 use Rattle.std.proofs.Common.{◌≡◌, ◌∙◌, sym, ap, subst, refl, ℕ, zero, suc, Bool, true, false, true≢false, ◌==◌, List, [], ◌∷◌, ◌++◌, Option, Some, None}
 use Rattle.std.specs.Prelude.{slice_get, drop}
-use Rattle.tam_frames.specs.FrameTables.{Frame, FrameTable, or_frame, is_live, frame_at, changed_in, changed, spent, count_in}
-use Rattle.tam_frames.specs.FrameTables.{new_frame, taken, given_back, is_current, is_queued, rested, current_of, given_of, next_of, next_thread, next_number}
+use Rattle.frame_tables.specs.FrameTables.{Frame, FrameTable, or_frame, is_live, frame_at, changed_in, changed, spent, count_in}
+use Rattle.frame_tables.specs.FrameTables.{new_frame, taken, given_back, is_current, is_queued, rested, current_of, given_of, next_of, next_thread, next_number}
 use Rattle.tam_frames.specs.StoredFrames.{StoredFrames, with_table, with_frames, with_turns, has_any, is_busy, frame_popped, popped}
 use Rattle.tam_frames.specs.Turns.{Turns, joined, begun, ended, left, turn_of, queue_behind}
 use Rattle.tam_frames.specs.Kept.{AreBusy, AreInTurn}

@@ -3,7 +3,7 @@ use Rattle.std.proofs.Common.{◌≡◌, ◌∙◌, sym, ap, subst, ℕ, zero, s
 use Rattle.std.specs.Prelude.{slice_get, slice_set, slice_index}
 use Rattle.std.proofs.lemmas.List.{set-get_or, set-set}
 use Rattle.std.proofs.lemmas.Option.{slice_get_within, get_or_from_slice_get}
-use Rattle.tam_frames.specs.FrameTables.{Frame, FrameTable, frame_at, is_live, changed, count_in, spent, spent_of, new_frame, taken, given_back}
+use Rattle.frame_tables.specs.FrameTables.{Frame, FrameTable, frame_at, is_live, changed, count_in, spent, spent_of, new_frame, taken, given_back}
 use Rattle.tam_frames.specs.StoredFrames.{StoredFrames, with_table, with_frames, frame_spent, frame_spent_of}
 use Rattle.tam_frames.specs.Kept.{numbered}
 use Rattle.tam_frames.proofs.TableLemmas.{live-there, there-frame, changed_in-there, get-set_same}

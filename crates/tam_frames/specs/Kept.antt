@@ -1,9 +1,9 @@
 -- What the code keeps of a frame, of its storage and of the queue, and what holds of it.
 -- The rule in words: docs/THREADS.md, "Frames".
 use Rattle.std.specs.Prelude.{ℕ, ◌≡◌, ◌+◌, ◌<◌, ◌≤◌, ◌^◌, Bool, true, false, cond, List, [], ◌∷◌, Option, Some, None, slice_get, get_or, length, count_by}
-use Rattle.tam_frames.specs.FrameTables.{Frame, FrameTable, is_held, is_live, is_queued}
+use Rattle.frame_tables.specs.FrameTables.{Frame, FrameTable, is_held, is_live, is_queued}
 use Rattle.tam_frames.specs.StoredFrames.{StoredFrames, is_busy}
-use Rattle.tam_frames.specs.FrameRows.{AreSized}
+use Rattle.tam_frames.specs.HeldFrames.{AreSized}
 
 -- each free number is one of the table, no frame stands there, and none is listed twice
 abbrev pub AreFree : List (Option Frame) → List ℕ → Type 0
@@ -20,10 +20,11 @@ shown [] rows = []
 shown (live ∷ lives) [] = []
 shown (live ∷ lives) (h ∷ rows) = cond live (Some h) None ∷ shown lives rows
 
--- what the code keeps of frames: all of them, which are live, the free numbers, how many are live, how many slots and threads each has, how many there
--- are in all, and the room of the two lists
+-- what the code keeps of frames: one for each number used so far, for how many there is room, which are live, the free numbers, how many are live, how many
+-- slots and threads each has, how many may be live, and the room of the two lists
 pub record Storage : Type 0 where
   pub rows : List Frame
+  pub rows_room : ℕ
   pub lives : List Bool
   pub free : List ℕ
   pub used : ℕ
@@ -40,7 +41,8 @@ shown_of s = shown s.lives s.rows
 -- all frames are of that size; the free numbers are those without a live frame; and no list outgrows its room
 pub record IsStored (s : Storage) : Type 0 where
   pub sized : AreSized s.slots s.threads s.rows
-  pub rows_there : length s.rows ≡ s.count
+  pub rows_there : length s.rows ≡ length s.lives
+  pub rows_fit : s.rows_room ≡ s.count
   pub are_free : AreFree (shown_of s) s.free
   pub free_counted : count_by is_held (shown_of s) + length s.free ≡ length s.lives
   pub used_counted : count_by is_held (shown_of s) ≡ s.used

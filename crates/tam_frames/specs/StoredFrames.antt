@@ -2,7 +2,7 @@
 -- The rule in words: docs/THREADS.md, "Frames".
 use Rattle.std.specs.Prelude.{ℕ, zero, suc, ◌≡◌, ◌<◌, Bool, true, false, List, [], ◌∷◌, Some, slice_get, slice_set, slice_index, length}
 use Rattle.std.specs.Prelude.{drop}
-use Rattle.tam_frames.specs.FrameTables.{Frame, FrameTable, no_frames, frame_at, changed}
+use Rattle.frame_tables.specs.FrameTables.{Frame, FrameTable, no_frames, frame_at, changed}
 use Rattle.tam_frames.specs.Turns.{Turns}
 
 -- a table, how many of its frames may be live, and how many slots and threads each has

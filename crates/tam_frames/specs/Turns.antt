@@ -1,7 +1,7 @@
 -- Whose turn it is: the current frame, and the queue of those that wait for their turn.
 -- The rule in words: docs/THREADS.md, "Frames".
 use Rattle.std.specs.Prelude.{ℕ, true, false, List, Option, Some, None, slice_get, drop}
-use Rattle.tam_frames.specs.FrameTables.{FrameTable, no_frames, is_current, queue_with}
+use Rattle.frame_tables.specs.FrameTables.{FrameTable, no_frames, is_current, queue_with}
 
 -- the queue, the current frame, and the number that all frames are below
 pub record Turns : Type 0 where

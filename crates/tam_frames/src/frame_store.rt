@@ -1,20 +1,20 @@
 // The storage of frames, and their numbers.
 ghost use Rattle.std.specs.Prelude.{◌≡◌, ◌<◌, ◌≤◌, ◌↔◌, false, length, slice_get, Some, IfOk, OnOk, OnErr, IsErr, IsTrue};
-ghost use Rattle.tam_frames.specs.FrameTables.{frame_at, is_live, live_count, slot_in, with_slot, count_in, spent, spend_answer, lowered};
-ghost use Rattle.tam_frames.specs.FrameTables.{next_number, taken, given_back};
+ghost use Rattle.frame_tables.specs.FrameTables.{frame_at, is_live, live_count, slot_in, with_slot, count_in, spent, spend_answer, lowered};
+ghost use Rattle.frame_tables.specs.FrameTables.{next_number, taken, given_back};
 ghost use Rattle.tam_frames.specs.StoredFrames.{with_table, with_frames, none_taken, is_busy, popped};
 
-use crate::frame_rows::FrameRows;
+use crate::frame_cells::FrameCells;
 use crate::{Full, Spend};
 use std::alloc::Global;
 use std::marker::Model;
 use tam_edge::NoMemory;
 
-/// Frames by their numbers, with the storage of those that may come yet. All the memory that it needs is taken when it is made.
+/// Frames by their numbers, with room for those that may come yet. All the memory that it needs is taken when it is made.
 #[derive(Drop)]
 pub(crate) struct FrameStore {
-    /// All frames, also those that may come yet.
-    frames: FrameRows,
+    /// One for each number that was used.
+    frames: FrameCells,
     /// Whether a frame is live, by its number; a number that was never used has no place here.
     lives: Vec<bool>,
     /// The free numbers, the one that was given back last behind all others.
@@ -22,8 +22,6 @@ pub(crate) struct FrameStore {
     /// How many frames are live.
     used: u32,
     count: u32,
-    slots: u32,
-    threads: u32,
 }
 
 impl Model for FrameStore {
@@ -34,20 +32,20 @@ impl Model for FrameStore {
     ghost Value = { StoredFrames };
 
     ghost view = { λ s. record {
-      table = numbered (shown s.lives.items s.frames) (reverse s.free.items);
+      table = numbered (shown s.lives.items s.frames.frames) (reverse s.free.items);
       count = s.count;
-      slots = s.slots;
-      threads =
-          s.threads;
+      slots = s.frames.slots;
+      threads = s.frames.threads;
     } };
 
     ghost invariant = { λ s. IsStored (record {
-      rows = s.frames;
+      rows = s.frames.frames;
+      rows_room = s.frames.room;
       lives = s.lives.items;
       free = reverse s.free.items;
       used = s.used;
-      slots = s.slots;
-      threads = s.threads;
+      slots = s.frames.slots;
+      threads = s.frames.threads;
       count = s.count;
       lives_room = s.lives.cap;
       free_room = s.free.cap;
@@ -64,13 +62,11 @@ impl FrameStore {
         ensures value { IfOk result (λ store. store ≡ none_taken count slots threads) }
     {
         Ok(FrameStore {
-            frames: FrameRows::new(alloc, count, slots, threads)?,
+            frames: FrameCells::new(alloc, count, slots, threads)?,
             lives: Vec::with_capacity(alloc, count as usize)?,
             free: Vec::with_capacity(alloc, count as usize)?,
             used: 0,
             count,
-            slots,
-            threads,
         })
     }
 

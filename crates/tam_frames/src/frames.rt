@@ -1,7 +1,7 @@
 // The frames of all activations.
 ghost use Rattle.std.specs.Prelude.{◌≡◌, ◌<◌, ◌≤◌, ◌↔◌, false, length, Some, slice_get, IfOk, IfSome, IfNone, OnOk, OnErr, IsErr, IsTrue};
-ghost use Rattle.tam_frames.specs.FrameTables.{frame_at, is_live, live_count, slot_in, with_slot, count_in, spent, spend_answer, lowered};
-ghost use Rattle.tam_frames.specs.FrameTables.{next_number, taken, given_back, is_ready, next_thread, rested};
+ghost use Rattle.frame_tables.specs.FrameTables.{frame_at, is_live, live_count, slot_in, with_slot, count_in, spent, spend_answer, lowered};
+ghost use Rattle.frame_tables.specs.FrameTables.{next_number, taken, given_back, is_ready, next_thread, rested};
 ghost use Rattle.tam_frames.specs.StoredFrames.{with_table, none_taken, is_busy};
 
 use crate::frame_store::FrameStore;

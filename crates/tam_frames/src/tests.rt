@@ -2,6 +2,7 @@
 ghost use Rattle.std.specs.Prelude.{◌≡◌};
 
 use crate::{Frames, Full, Spend};
+use std::alloc::{AllocError, Global};
 use std::test::Fail;
 
 /// A call, where its conditions are met.
@@ -182,4 +183,55 @@ fn numbers_come_back_last_first(rt: HostRuntime) -> Result<(), Fail> {
         assert_eq!(rt; table.answer(step), answer, "{step:?}");
     }
     Ok(())
+}
+
+// Four frames run and are given back 10,080 times, in each of their 24 orders as often. They run in the order in which a thread of each became ready, and
+// their numbers are taken again as a plain list of free numbers says.
+#[test]
+fn four_frames_in_every_order(rt: HostRuntime) -> Result<(), Fail> {
+    let Ok(frames) = Frames::new(rt.alloc(), 4, 2, 2) else {
+        return Err(Fail::from("no memory"));
+    };
+    let mut table = Table { frames };
+    // The number that is taken next is the last.
+    let mut free = Vec::from_slice(rt.alloc(), &[3, 2, 1, 0])?;
+    let orders = orders_of_four(rt.alloc())?;
+    for _ in 0..420 {
+        for (a, b, c, d) in &orders {
+            for _ in 0..4 {
+                let number = free.pop().ok_or("a free number")?;
+                assert_eq!(rt; table.answer(Step::Take([1, 0])), Answer::Taken(number));
+            }
+            assert_eq!(rt; table.answer(Step::Take([1, 0])), Answer::Refused);
+            for f in [*a, *b, *c, *d] {
+                assert_eq!(rt;
+                    table.answer(Step::Spend(f, 0)),
+                    Answer::Spent(Spend::Enabled)
+                );
+            }
+            for f in [*a, *b, *c, *d] {
+                assert_eq!(rt; table.answer(Step::Next), Answer::Next(f, 0));
+                table.answer(Step::Lower(f, 2));
+                assert_eq!(rt; table.answer(Step::Give(f)), Answer::Nothing);
+                free.push(f)?;
+            }
+            assert_eq!(rt; table.answer(Step::Used), Answer::Number(0));
+        }
+    }
+    Ok(())
+}
+
+// The numbers from 0 to 3 in each of their orders.
+fn orders_of_four(alloc: Global) -> Result<Vec<(u32, u32, u32, u32)>, AllocError> {
+    let mut orders = Vec::new(alloc);
+    for a in 0..4 {
+        for b in 0..4 {
+            for c in 0..4 {
+                if a != b && b != c && a != c {
+                    orders.push((a, b, c, 6u32.wrapping_sub(a + b + c)))?;
+                }
+            }
+        }
+    }
+    Ok(orders)
 }

@@ -1,6 +1,6 @@
 // Whose turn it is.
 ghost use Rattle.std.specs.Prelude.{◌≡◌, ◌<◌, [], None, false, IfOk, IfSome};
-ghost use Rattle.tam_frames.specs.FrameTables.{is_queued};
+ghost use Rattle.frame_tables.specs.FrameTables.{is_queued};
 ghost use Rattle.tam_frames.specs.StoredFrames.{has_any};
 ghost use Rattle.tam_frames.specs.Turns.{joined, begun, ended, left, turn_of};
 

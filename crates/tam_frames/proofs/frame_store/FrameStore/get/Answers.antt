@@ -1,21 +1,22 @@
 use Rattle.std.proofs.Common.{◌≡◌, ◌∙◌, ap, reverse, arith}
 use Rattle.std.specs.Prelude.{slice_index}
-use Rattle.tam_frames.specs.FrameTables.{Frame}
+use Rattle.frame_tables.specs.FrameTables.{Frame}
 use Rattle.tam_frames.specs.Kept.{Storage}
 use Rattle.tam_frames.specs.StoredFrames.{StoredFrames}
-use Rattle.tam_frames.proofs.ChangeLemmas.{row-within, held, sized}
+use Rattle.tam_frames.proofs.ChangeLemmas.{row-within, held}
 use Rattle.tam_frames.proofs.frame_store.FrameStore.get.Goals as goal
 
 pub get-requires-clause-there : goal.get-requires-clause-there
 get-requires-clause-there c =
     let r = c.self.inside in
     let st : Storage = record {
-      rows = r.frames;
+      rows = r.frames.frames;
+      rows_room = r.frames.room;
       lives = r.lives.items;
       free = reverse r.free.items;
       used = r.used;
-      slots = r.slots;
-      threads = r.threads;
+      slots = r.frames.slots;
+      threads = r.frames.threads;
       count = r.count;
       lives_room = r.lives.cap;
       free_room = r.free.cap;
@@ -27,31 +28,32 @@ pub get-requires-clause-slot : goal.get-requires-clause-slot
 get-requires-clause-slot c =
     let r = c.self.inside in
     let st : Storage = record {
-      rows = r.frames;
+      rows = r.frames.frames;
+      rows_room = r.frames.room;
       lives = r.lives.items;
       free = reverse r.free.items;
       used = r.used;
-      slots = r.slots;
-      threads = r.threads;
+      slots = r.frames.slots;
+      threads = r.frames.threads;
       count = r.count;
       lives_room = r.lives.cap;
       free_room = r.free.cap;
     } in
     let f = c.args.f in
-    let slots_are : r.slots ≡ c.args.self.now.slots = ap (λ (v : StoredFrames). v.slots) c.self.view_is in
-    let size = sized st c.self.invariant c.self.view_is f c.requires.live in
-    omega (arith, c.requires.slot, slots_are, size.slots_there)
+    let slots_are : r.frames.slots ≡ c.args.self.now.slots = ap (λ (v : StoredFrames). v.slots) c.self.view_is in
+    omega (arith, c.requires.slot, slots_are)
 
 pub returns : goal.returns
 returns c =
     let r = c.self.inside in
     let st : Storage = record {
-      rows = r.frames;
+      rows = r.frames.frames;
+      rows_room = r.frames.room;
       lives = r.lives.items;
       free = reverse r.free.items;
       used = r.used;
-      slots = r.slots;
-      threads = r.threads;
+      slots = r.frames.slots;
+      threads = r.frames.threads;
       count = r.count;
       lives_room = r.lives.cap;
       free_room = r.free.cap;

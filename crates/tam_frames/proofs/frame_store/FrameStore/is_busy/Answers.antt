@@ -1,5 +1,5 @@
 use Rattle.std.proofs.Common.{◌∙◌, ap, reverse}
-use Rattle.tam_frames.specs.FrameTables.{Frame}
+use Rattle.frame_tables.specs.FrameTables.{Frame}
 use Rattle.tam_frames.specs.Kept.{Storage}
 use Rattle.tam_frames.specs.StoredFrames.{has_any}
 use Rattle.tam_frames.proofs.ChangeLemmas.{row-within, held}
@@ -9,12 +9,13 @@ pub is_busy-requires : goal.is_busy-requires
 is_busy-requires c =
     let r = c.self.inside in
     let st : Storage = record {
-      rows = r.frames;
+      rows = r.frames.frames;
+      rows_room = r.frames.room;
       lives = r.lives.items;
       free = reverse r.free.items;
       used = r.used;
-      slots = r.slots;
-      threads = r.threads;
+      slots = r.frames.slots;
+      threads = r.frames.threads;
       count = r.count;
       lives_room = r.lives.cap;
       free_room = r.free.cap;
@@ -26,12 +27,13 @@ pub returns : goal.returns
 returns c =
     let r = c.self.inside in
     let st : Storage = record {
-      rows = r.frames;
+      rows = r.frames.frames;
+      rows_room = r.frames.room;
       lives = r.lives.items;
       free = reverse r.free.items;
       used = r.used;
-      slots = r.slots;
-      threads = r.threads;
+      slots = r.frames.slots;
+      threads = r.frames.threads;
       count = r.count;
       lives_room = r.lives.cap;
       free_room = r.free.cap;

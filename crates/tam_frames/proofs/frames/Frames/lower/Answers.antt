@@ -1,5 +1,5 @@
 use Rattle.std.proofs.Common.{◌-◌, sym, subst}
-use Rattle.tam_frames.specs.FrameTables.{Frame}
+use Rattle.frame_tables.specs.FrameTables.{Frame}
 use Rattle.tam_frames.specs.StoredFrames.{StoredFrames, with_turns}
 use Rattle.tam_frames.specs.Kept.{AreInTurn}
 use Rattle.tam_frames.proofs.TurnLemmas.{turns-changed}

@@ -1,5 +1,5 @@
 use Rattle.std.proofs.Common.{◌≡◌, ◌∙◌, ap, ap₂, sym, subst, true, false, Some, Option, ℕ, List, arith}
-use Rattle.tam_frames.specs.FrameTables.{FrameTable, is_live, is_queued, rested}
+use Rattle.frame_tables.specs.FrameTables.{FrameTable, is_live, is_queued, rested}
 use Rattle.tam_frames.specs.StoredFrames.{StoredFrames, with_turns, with_table, is_busy, popped, frame_popped}
 use Rattle.tam_frames.specs.Turns.{Turns, begun, turn_of, queue_behind}
 use Rattle.tam_frames.specs.Kept.{AreInTurn}

@@ -1,6 +1,6 @@
 use Rattle.std.proofs.Common.{sym, subst}
 use Rattle.std.specs.Prelude.{slice_set}
-use Rattle.tam_frames.specs.FrameTables.{Frame}
+use Rattle.frame_tables.specs.FrameTables.{Frame}
 use Rattle.tam_frames.specs.StoredFrames.{StoredFrames, with_turns}
 use Rattle.tam_frames.specs.Kept.{AreInTurn}
 use Rattle.tam_frames.proofs.TurnLemmas.{turns-changed}

@@ -1,7 +1,7 @@
 use Rattle.std.proofs.Common.{◌≡◌, ◌∙◌, ap, sym, subst, true, Some, rules}
 use Rattle.std.specs.Prelude.{slice_get}
-use Rattle.tam_frames.specs.declared.spend.Spend.TheVariants.{Enabled}
-use Rattle.tam_frames.specs.FrameTables.{frame_at, is_live, count_in, spent}
+use Rattle.frame_tables.specs.declared.answers.Spend.TheVariants.{Enabled}
+use Rattle.frame_tables.specs.FrameTables.{frame_at, is_live, count_in, spent}
 use Rattle.tam_frames.specs.StoredFrames.{StoredFrames, with_turns, with_frames, is_busy}
 use Rattle.tam_frames.specs.Turns.{Turns, joined}
 use Rattle.tam_frames.specs.Kept.{AreInTurn}

@@ -1,6 +1,6 @@
 // The numbers of frames that are live.
 ghost use Rattle.std.specs.Prelude.{◌≡◌, ◌+◌, ◌<◌, ◌≤◌, ◌∷◌, [], ◌++◌, List, ℕ, ◌==◌, not, filter, length, IfOk, IsTrue};
-ghost use Rattle.tam_frames.specs.FrameTables.{next_number_of};
+ghost use Rattle.frame_tables.specs.FrameTables.{next_number_of};
 ghost use Rattle.rv_keep.specs.HostRuns.{left_free};
 ghost use Rattle.rv_host.specs.LiveFrames.{AreLive, is_marked, first_numbers};
 

@@ -8,7 +8,7 @@ use Rattle.tam_word.proofs.Members.{In}
 use Rattle.tam_msgs.specs.declared.limits.Limits.{Limits}
 use Rattle.tam_msgs.specs.declared.message.Message.{Message}
 use Rattle.tam_msgs.specs.declared.message.Message.TheVariants.{Word as Carry}
-use Rattle.tam_frames.specs.FrameTables.{frame_at, live_count, next_number, next_number_of}
+use Rattle.frame_tables.specs.FrameTables.{frame_at, live_count, next_number, next_number_of}
 use Rattle.tl0_code.specs.ThreadCode.{CodeText, Program, code_text, counts_of}
 use Rattle.tl0_code.specs.Machines.{Machine, Fine, code_at, with_message, spend, spend_of, then_do}
 use Rattle.tl0_code.specs.ThreadRuns.{with_frame as thread_frame, begin_for}

@@ -8,8 +8,8 @@ use Rattle.tam_word.proofs.Members.{In, in-has, in-map}
 use Rattle.tam_word.proofs.Tests.{number-eq, number-differs}
 use Rattle.tam_msgs.specs.declared.limits.Limits.{Limits}
 use Rattle.tam_msgs.specs.declared.message.Message.{Message}
-use Rattle.tam_frames.specs.FrameTables.{Frame, FrameTable, or_frame, frame_at, is_live, is_some_frame, is_current, live_count, next_number}
-use Rattle.tam_frames.specs.FrameTables.{new_frame, with_new, changed_in}
+use Rattle.frame_tables.specs.FrameTables.{Frame, FrameTable, or_frame, frame_at, is_live, is_some_frame, is_current, live_count, next_number}
+use Rattle.frame_tables.specs.FrameTables.{new_frame, with_new, changed_in}
 use Rattle.tl0_code.specs.ThreadCode.{CodeText, Program, code_text, counts_of, widest_slots, widest_threads}
 use Rattle.tl0_code.specs.Machines.{Machine, code_at, with_message}
 use Rattle.tl0_code.specs.ThreadRuns.{with_frame}

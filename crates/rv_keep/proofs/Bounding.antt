@@ -5,7 +5,7 @@ use Rattle.std.specs.Prelude.{zip}
 use Rattle.tam_msgs.specs.declared.limits.Limits.{Limits}
 use Rattle.tam_msgs.specs.declared.item.Item.{Item}
 use Rattle.tam_msgs.specs.Runs.{End, Outcome, Next, Ended, choice, and_then, after_events}
-use Rattle.tam_frames.specs.FrameTables.{is_ready, frame_at, count_in}
+use Rattle.frame_tables.specs.FrameTables.{is_ready, frame_at, count_in}
 use Rattle.tl0_code.specs.ThreadCode.{Program, code_text}
 use Rattle.tl0_code.specs.Machines.{Machine, spend_of}
 use Rattle.tl0_code.specs.ThreadRuns.{thread_step, thread_opening}

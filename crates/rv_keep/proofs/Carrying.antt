@@ -6,7 +6,7 @@ use Rattle.tam_word.specs.Lists.{has, all_differ}
 use Rattle.tam_word.proofs.Members.{In, has-in, in-map}
 use Rattle.tam_word.proofs.Tests.{number-eq, number-differs}
 use Rattle.tam_msgs.specs.declared.limits.Limits.{Limits}
-use Rattle.tam_frames.specs.FrameTables.{Frame, FrameTable, changed_in, is_some_frame, is_held, is_live}
+use Rattle.frame_tables.specs.FrameTables.{Frame, FrameTable, changed_in, is_some_frame, is_held, is_live}
 use Rattle.tl0_code.specs.ThreadCode.{Program, code_text}
 use Rattle.tl0_code.specs.Machines.{Machine, code_at}
 use Rattle.rv_inst.specs.Harts.{reg, read_at, written_at}

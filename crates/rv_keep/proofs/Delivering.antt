@@ -5,7 +5,7 @@ use Rattle.std.proofs.lemmas.List.{length-take-le}
 use Rattle.tam_word.specs.Lists.{has}
 use Rattle.tam_word.proofs.Members.{In, not-has, get-in}
 use Rattle.tam_msgs.specs.declared.limits.Limits.{Limits}
-use Rattle.tam_frames.specs.FrameTables.{Frame, or_frame, is_live, is_some_frame}
+use Rattle.frame_tables.specs.FrameTables.{Frame, or_frame, is_live, is_some_frame}
 use Rattle.tl0_code.specs.declared.inlet.Inlet.{Inlet}
 use Rattle.tl0_code.specs.ThreadCode.{CodeText, Program, code_text}
 use Rattle.tl0_code.specs.Machines.{Machine, Fine, code_at, put, spend_of}

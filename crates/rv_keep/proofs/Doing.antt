@@ -11,7 +11,7 @@ use Rattle.tam_msgs.specs.Messages.{site}
 use Rattle.tam_msgs.specs.Runs.{Wild_skip}
 use Rattle.tam_msgs.specs.declared.limits.Limits.{Limits}
 use Rattle.tam_msgs.specs.declared.message.Message.TheVariants.{Word as Carry, Frame as Begin, Cells as Make, Fetch as Ask_cell, Store as Put_cell}
-use Rattle.tam_frames.specs.FrameTables.{Frame, or_frame, frame_at, lowered}
+use Rattle.frame_tables.specs.FrameTables.{Frame, or_frame, frame_at, lowered}
 use Rattle.tl0_code.specs.declared.instr.Instr.{Instr}
 use Rattle.tl0_code.specs.declared.instr.Instr.TheVariants.{Imm, Mov, Op as Operate, Fork, Switch, Falloc, Send, Ret, Ialloc, Ifetch, Istore, Skip}
 use Rattle.tl0_code.specs.ThreadCode.{CodeText, Program, code_text}

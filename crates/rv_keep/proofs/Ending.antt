@@ -6,7 +6,7 @@ use Rattle.tam_word.specs.Lists.{has}
 use Rattle.tam_word.proofs.Members.{In, in-has, has-in, in-map, not-has}
 use Rattle.tam_word.proofs.Tests.{self-eq, number-eq, number-differs}
 use Rattle.tam_msgs.specs.declared.limits.Limits.{Limits}
-use Rattle.tam_frames.specs.FrameTables.{Frame, FrameTable, changed_in, frame_at, is_live, is_some_frame, is_held, is_current, lowered, given_back}
+use Rattle.frame_tables.specs.FrameTables.{Frame, FrameTable, changed_in, frame_at, is_live, is_some_frame, is_held, is_current, lowered, given_back}
 use Rattle.tl0_code.specs.ThreadCode.{Program}
 use Rattle.tl0_code.specs.Machines.{Machine, Giving, Fine, code_at, at_rest, owing_less, with_given as with_number_given, all_done, stopped_owing, stopped}
 use Rattle.rv_inst.specs.Harts.{Hart, Called, reg, read_at, written_at}

@@ -6,7 +6,7 @@ use Rattle.tam_word.specs.Lists.{has}
 use Rattle.tam_word.proofs.Members.{In, in-has, in-map, not-has}
 use Rattle.tam_word.proofs.Tests.{self-eq}
 use Rattle.tam_msgs.specs.declared.limits.Limits.{Limits}
-use Rattle.tam_frames.specs.FrameTables.{Frame, FrameTable, changed, changed_in, frame_at, is_current, given_of, next_of, next_thread, rested}
+use Rattle.frame_tables.specs.FrameTables.{Frame, FrameTable, changed, changed_in, frame_at, is_current, given_of, next_of, next_thread, rested}
 use Rattle.tl0_code.specs.ThreadCode.{Program, code_text}
 use Rattle.tl0_code.specs.Machines.{Machine, code_at}
 use Rattle.rv_inst.specs.Harts.{reg, read_at, written_at}

@@ -17,8 +17,8 @@ use Rattle.tam_msgs.specs.Runs.{choice, WildCause, Wild_frame, Wild_inlet, Wild_
 use Rattle.tam_msgs.specs.Runs.{Outcome, Next, Ended}
 use Rattle.tam_word.specs.Words.{wrapped}
 use Rattle.tam_istr.specs.Cells.{Arrays, Access, Now, Deferred, Stored, Twice, NotBelow, NoArray, with_array, cells_used, fetched_from, stored_into}
-use Rattle.tam_frames.specs.FrameTables.{Frame, FrameTable, or_frame, frame_at, is_live, live_count, is_ready, next_thread, next_number}
-use Rattle.tam_frames.specs.FrameTables.{next_number_of, spent, count_in}
+use Rattle.frame_tables.specs.FrameTables.{Frame, FrameTable, or_frame, frame_at, is_live, live_count, is_ready, next_thread, next_number}
+use Rattle.frame_tables.specs.FrameTables.{next_number_of, spent, count_in}
 use Rattle.tl0_code.specs.declared.inlet.Inlet.{Inlet}
 use Rattle.tl0_code.specs.ThreadCode.{Program, code_text, thread_at}
 use Rattle.tl0_code.specs.Machines.{Machine, Giving, Progress, Fine, Broken, put, done_thread, with_message, spend, spend_of, then_do}

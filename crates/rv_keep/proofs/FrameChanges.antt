@@ -6,7 +6,7 @@ use Rattle.std.proofs.Math.Nat.{mod-eq_of_lt}
 use Rattle.tam_word.specs.Lists.{has}
 use Rattle.tam_word.proofs.Tests.{number-eq, number-differs}
 use Rattle.tam_word.proofs.Members.{In, in-has, has-in}
-use Rattle.tam_frames.specs.FrameTables.{Frame}
+use Rattle.frame_tables.specs.FrameTables.{Frame}
 use Rattle.tl0_code.specs.ThreadCode.{Program, code_text}
 use Rattle.rv_inst.specs.Harts.{read_at, written_at}
 use Rattle.rv_inst.proofs.Memory.{read-written}

@@ -6,7 +6,7 @@ use Rattle.std.proofs.lemmas.Nat.{mul-le}
 use Rattle.std.proofs.lemmas.List.{length-take-le}
 use Rattle.tam_word.specs.Lists.{has}
 use Rattle.tam_word.proofs.Members.{In, in-has, in-map}
-use Rattle.tam_frames.specs.FrameTables.{Frame}
+use Rattle.frame_tables.specs.FrameTables.{Frame}
 use Rattle.tl0_code.specs.ThreadCode.{Program, code_text}
 use Rattle.rv_inst.specs.Harts.{read_at, written_at}
 use Rattle.rv_inst.proofs.Memory.{length-written}

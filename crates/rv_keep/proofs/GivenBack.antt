@@ -5,7 +5,7 @@ use Rattle.std.specs.Prelude.{slice_set, count_by, fold, if◌then◌else◌}
 use Rattle.tam_word.specs.Lists.{has}
 use Rattle.tam_word.proofs.Members.{In, in-has, has-in, not-has, filter-in, in-filter}
 use Rattle.tam_word.proofs.Tests.{number-eq, number-differs, differs-number, self-eq}
-use Rattle.tam_frames.specs.FrameTables.{Frame, FrameTable, or_frame, frame_at, is_held, is_some_frame, is_current}
+use Rattle.frame_tables.specs.FrameTables.{Frame, FrameTable, or_frame, frame_at, is_held, is_some_frame, is_current}
 use Rattle.rv_keep.specs.Relation.{TurnsHold}
 use Rattle.rv_keep.proofs.Turns.{Differ, differ-split, differ-joined, either-way}
 

@@ -2,8 +2,8 @@
 use Rattle.std.proofs.Common.{◌≡◌, ℕ, zero, suc, List, [], ◌∷◌, refl, sym, ap, ◌∙◌, true, false, Bool, subst, Option, Some, None, slice_get, nat_lt, inl}
 use Rattle.tam_word.specs.Lists.{has}
 use Rattle.tam_word.proofs.Members.{in-has}
-use Rattle.tam_frames.specs.FrameTables.{Frame, FrameTable, or_frame, frame_at, is_some_frame, spent_of, spent, count_in, next_of, given_of}
-use Rattle.tam_frames.specs.FrameTables.{next_thread, rested}
+use Rattle.frame_tables.specs.FrameTables.{Frame, FrameTable, or_frame, frame_at, is_some_frame, spent_of, spent, count_in, next_of, given_of}
+use Rattle.frame_tables.specs.FrameTables.{next_thread, rested}
 use Rattle.tam_msgs.specs.Runs.{Wild_skip}
 use Rattle.tl0_code.specs.declared.instr.Instr.{Instr}
 use Rattle.tl0_code.specs.declared.instr.Instr.TheVariants.{Imm, Mov, Op as Operate, Fork, Switch, Falloc, Send, Ret, Ialloc, Ifetch, Istore, Skip}

@@ -7,7 +7,7 @@ use Rattle.tam_msgs.specs.declared.limits.Limits.{Limits}
 use Rattle.tam_msgs.specs.declared.message.Message.{Message}
 use Rattle.tam_msgs.specs.declared.message.Message.TheVariants.{Word as Carry, Frame as Begin, Cells as Make, Fetch as Ask_cell, Store as Put_cell}
 use Rattle.tam_msgs.specs.Messages.{site}
-use Rattle.tam_frames.specs.FrameTables.{Frame}
+use Rattle.frame_tables.specs.FrameTables.{Frame}
 use Rattle.tl0_code.specs.declared.instr.Instr.{Instr}
 use Rattle.tl0_code.specs.declared.instr.Instr.TheVariants.{Falloc, Send, Ret, Ialloc, Ifetch, Istore}
 use Rattle.tl0_code.specs.declared.bad_cause.BadCause.TheVariants as bad

@@ -7,7 +7,7 @@ use Rattle.std.proofs.lemmas.List.{length-take-le, length-append, length-replica
 use Rattle.tam_word.proofs.Members.{In, in-map}
 use Rattle.tam_word.proofs.Tests.{test-below}
 use Rattle.tam_msgs.specs.declared.limits.Limits.{Limits}
-use Rattle.tam_frames.specs.FrameTables.{Frame, new_frame}
+use Rattle.frame_tables.specs.FrameTables.{Frame, new_frame}
 use Rattle.tl0_code.specs.ThreadCode.{CodeText, Program, code_text, or_text, counts_of, greater, greatest, widest_slots, widest_threads}
 use Rattle.rv_keep.specs.KernelFrames.{begun}
 use Rattle.rv_keep.specs.Image.{words_in_all, stride_of, frame_bytes, record_of, inlets_of_code}

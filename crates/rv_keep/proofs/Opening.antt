@@ -9,7 +9,7 @@ use Rattle.tam_msgs.specs.declared.limits.Limits.{Limits}
 use Rattle.tam_msgs.specs.declared.message.Message.TheVariants.{Word as Carry}
 use Rattle.tam_msgs.specs.declared.item.Item.{Item}
 use Rattle.tam_msgs.specs.Messages.{outside}
-use Rattle.tam_frames.specs.FrameTables.{Frame, or_frame, frame_at, spent}
+use Rattle.frame_tables.specs.FrameTables.{Frame, or_frame, frame_at, spent}
 use Rattle.tl0_code.specs.ThreadCode.{CodeText, Program, code_text, counts_of, widest_threads}
 use Rattle.tl0_code.specs.Machines.{Machine, Fine, spend, spend_of}
 use Rattle.tl0_code.specs.ThreadRuns.{with_frame as thread_frame, nothing_begun, or_machine, thread_opening}

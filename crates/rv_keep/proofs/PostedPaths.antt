@@ -4,8 +4,8 @@ use Rattle.std.proofs.Common.{true≢false, Option, Some, None, slice_get}
 use Rattle.std.proofs.lemmas.Option.{get_or_from_slice_get}
 use Rattle.tam_word.specs.Lists.{has}
 use Rattle.tam_msgs.specs.declared.limits.Limits.{Limits}
-use Rattle.tam_frames.specs.FrameTables.{Frame, FrameTable, changed_in, or_frame, frame_at, is_live, is_some_frame, is_current, queue_with}
-use Rattle.tam_frames.specs.FrameTables.{made_ready, with_count, spent_of, spent, count_in}
+use Rattle.frame_tables.specs.FrameTables.{Frame, FrameTable, changed_in, or_frame, frame_at, is_live, is_some_frame, is_current, queue_with}
+use Rattle.frame_tables.specs.FrameTables.{made_ready, with_count, spent_of, spent, count_in}
 use Rattle.tl0_code.specs.ThreadCode.{Program, code_text}
 use Rattle.tl0_code.specs.Machines.{Machine, Fine, code_at, spend, spend_of}
 use Rattle.tl0_code.specs.ThreadRuns.{text_at}

@@ -5,7 +5,7 @@ use Rattle.std.proofs.Math.Nat.{mod-eq_of_lt}
 use Rattle.tam_word.specs.Lists.{has}
 use Rattle.tam_word.proofs.Members.{In, in-has}
 use Rattle.tam_msgs.specs.declared.limits.Limits.{Limits}
-use Rattle.tam_frames.specs.FrameTables.{Frame, FrameTable, changed_in, is_current}
+use Rattle.frame_tables.specs.FrameTables.{Frame, FrameTable, changed_in, is_current}
 use Rattle.tl0_code.specs.ThreadCode.{Program}
 use Rattle.tl0_code.specs.Machines.{Machine, code_at}
 use Rattle.rv_inst.specs.Harts.{reg, read_at, written_at}

@@ -4,7 +4,7 @@ use Rattle.std.proofs.Common.{false, true≢false, subst, Option, Some, None}
 use Rattle.tam_word.specs.Lists.{has}
 use Rattle.tam_word.proofs.Members.{In, not-has}
 use Rattle.tam_msgs.specs.declared.limits.Limits.{Limits}
-use Rattle.tam_frames.specs.FrameTables.{Frame, FrameTable, changed_in, frame_at, current_of, lowered}
+use Rattle.frame_tables.specs.FrameTables.{Frame, FrameTable, changed_in, frame_at, current_of, lowered}
 use Rattle.tl0_code.specs.ThreadCode.{Program, code_text}
 use Rattle.tl0_code.specs.Machines.{Machine, Fine, Broken, code_at, at_rest, owing_less}
 use Rattle.rv_inst.specs.Harts.{Hart, reg, read_at, written_at}

@@ -3,8 +3,8 @@ use Rattle.std.proofs.Common.{◌≡◌, ◌≢◌, ℕ, zero, suc, List, [], �
 use Rattle.std.specs.Prelude.{slice_set}
 use Rattle.tam_word.specs.Lists.{has}
 use Rattle.tam_word.proofs.Members.{in-has}
-use Rattle.tam_frames.specs.FrameTables.{Frame, FrameTable, or_frame, frame_at, changed_in, spent_of, current_of, rested, is_ready_of, is_ready}
-use Rattle.tam_frames.specs.FrameTables.{given_of, next_of, next_thread}
+use Rattle.frame_tables.specs.FrameTables.{Frame, FrameTable, or_frame, frame_at, changed_in, spent_of, current_of, rested, is_ready_of, is_ready}
+use Rattle.frame_tables.specs.FrameTables.{given_of, next_of, next_thread}
 use Rattle.rv_keep.specs.Relation.{TurnsHold}
 use Rattle.rv_keep.proofs.TableChanges.{ready-changed}
 use Rattle.rv_keep.proofs.SlotRelated.{slotted_frame}

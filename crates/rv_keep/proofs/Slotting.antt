@@ -6,7 +6,7 @@ use Rattle.std.proofs.lemmas.List.{get_or-take, length-take-le}
 use Rattle.tam_word.specs.Lists.{any_of, beyond, where_so}
 use Rattle.tam_word.proofs.Tests.{test-below}
 use Rattle.tam_msgs.specs.declared.limits.Limits.{Limits}
-use Rattle.tam_frames.specs.FrameTables.{Frame, is_live, or_frame, frame_at}
+use Rattle.frame_tables.specs.FrameTables.{Frame, is_live, or_frame, frame_at}
 use Rattle.tl0_code.specs.declared.bad_cause.BadCause.{BadCause}
 use Rattle.tl0_code.specs.declared.instr.Instr.{Instr}
 use Rattle.tl0_code.specs.declared.instr.Instr.TheVariants.{Imm, Mov}

@@ -5,7 +5,7 @@ use Rattle.tam_word.specs.Lists.{has}
 use Rattle.tam_word.proofs.Members.{in-has}
 use Rattle.tam_word.proofs.Tests.{number-eq, number-differs}
 use Rattle.tam_msgs.specs.declared.limits.Limits.{Limits}
-use Rattle.tam_frames.specs.FrameTables.{Frame, FrameTable, or_frame, frame_at, is_current, queue_with, made_ready, with_count, spent_of}
+use Rattle.frame_tables.specs.FrameTables.{Frame, FrameTable, or_frame, frame_at, is_current, queue_with, made_ready, with_count, spent_of}
 use Rattle.tl0_code.specs.ThreadCode.{Program}
 use Rattle.tl0_code.specs.Machines.{Machine, Fine, code_at, spend}
 use Rattle.tl0_code.specs.ThreadRuns.{text_at}

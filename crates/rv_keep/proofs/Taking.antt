@@ -6,7 +6,7 @@ use Rattle.std.proofs.lemmas.List.{length-append}
 use Rattle.tam_word.specs.Lists.{has, any_of, all_differ, put_at}
 use Rattle.tam_word.proofs.Members.{has-in, in-has, in-any, right-in}
 use Rattle.tam_word.proofs.Tests.{eq-number, differs-number}
-use Rattle.tam_frames.specs.FrameTables.{Frame, FrameTable, is_held, is_live, is_some_frame, live_count, changed_in, with_new, next_number_of}
+use Rattle.frame_tables.specs.FrameTables.{Frame, FrameTable, is_held, is_live, is_some_frame, live_count, changed_in, with_new, next_number_of}
 use Rattle.rv_keep.specs.Relation.{NumbersHold}
 use Rattle.rv_keep.proofs.TableChanges.{changed-same, changed-other, count-changed}
 

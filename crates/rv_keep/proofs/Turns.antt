@@ -4,7 +4,7 @@ use Rattle.std.proofs.Common.{None, Option, slice_get}
 use Rattle.tam_word.specs.Lists.{has, any_of, all_differ}
 use Rattle.tam_word.proofs.Members.{In, has-in, in-has, any-in, in-any, in-append, left-in, right-in}
 use Rattle.tam_word.proofs.Tests.{number-eq, number-differs, differs-number, self-eq}
-use Rattle.tam_frames.specs.FrameTables.{Frame, FrameTable, changed_in, or_frame, frame_at, is_live, is_current, is_queued, queue_with}
+use Rattle.frame_tables.specs.FrameTables.{Frame, FrameTable, changed_in, or_frame, frame_at, is_live, is_current, is_queued, queue_with}
 use Rattle.rv_keep.specs.Relation.{TurnsHold}
 use Rattle.rv_keep.proofs.TableChanges.{changed-same, changed-other, live-changed, ready-changed}
 

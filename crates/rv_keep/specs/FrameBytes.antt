@@ -4,7 +4,7 @@ use Rattle.std.specs.Prelude.{ℕ, suc, ◌+◌, ◌*◌, ◌%◌, ◌^◌, true
 use Rattle.tam_word.specs.Lists.{has}
 use Rattle.tam_msgs.specs.declared.message.Message.{Message}
 use Rattle.tl0_code.specs.declared.instr.Instr.{Instr}
-use Rattle.tam_frames.specs.FrameTables.{Frame}
+use Rattle.frame_tables.specs.FrameTables.{Frame}
 use Rattle.rv_inst.specs.Harts.{Hart, reg, read_at, written_at}
 use Rattle.rv_inst.specs.Steps.{Comes, Calls, Stands}
 use Rattle.rv_keep.specs.Expansions.{expanded}

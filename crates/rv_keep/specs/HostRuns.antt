@@ -15,7 +15,7 @@ use Rattle.tam_msgs.specs.Runs.{choice, Wild_frame, Wild_array, Wild_place, End,
 use Rattle.tam_msgs.specs.Runs.{Budget_spent, Wild, Outcome, Next, Ended, run_from, Report, text_of, line}
 use Rattle.rv_inst.specs.Harts.{Hart, reg, with_reg}
 use Rattle.rv_inst.specs.Images.{Image, hart_opening}
-use Rattle.tam_frames.specs.FrameTables.{next_number_of}
+use Rattle.frame_tables.specs.FrameTables.{next_number_of}
 use Rattle.rv_keep.specs.Hosts.{Host, with_hart, Reached, At_poll, Stopped, to_poll}
 
 -- registers get words

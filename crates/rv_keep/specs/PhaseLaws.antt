@@ -6,7 +6,7 @@ use Rattle.tam_msgs.specs.declared.limits.Limits.{Limits}
 use Rattle.tam_msgs.specs.declared.item.Item.{Item}
 use Rattle.tl0_code.specs.declared.inlet.Inlet.{Inlet}
 use Rattle.tl0_code.specs.declared.instr.Instr.{Instr}
-use Rattle.tam_frames.specs.FrameTables.{FrameTable, next_thread, rested, is_ready, live_count, next_number_of}
+use Rattle.frame_tables.specs.FrameTables.{FrameTable, next_thread, rested, is_ready, live_count, next_number_of}
 use Rattle.tl0_code.specs.declared.instr.Instr.TheVariants.{Imm, Mov}
 use Rattle.tl0_code.specs.CodeRules.{faults_of_instr}
 use Rattle.tl0_code.specs.ThreadCode.{CodeText, Program, code_text}

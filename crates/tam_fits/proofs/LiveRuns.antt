@@ -7,7 +7,7 @@ use Rattle.tam_msgs.specs.declared.item.Item.{Item}
 use Rattle.tam_msgs.specs.declared.choice.Choice.{Choice}
 use Rattle.tam_msgs.specs.declared.choice.Choice.TheVariants.{Quiet as Choose_quiet, Run as Choose_run, Deliver as Choose_delivery}
 use Rattle.tam_msgs.specs.Runs.{End, Outcome, Next, Ended, choice, Report}
-use Rattle.tam_frames.specs.FrameTables.{FrameTable, is_live, is_some_frame, is_ready, live_count}
+use Rattle.frame_tables.specs.FrameTables.{FrameTable, is_live, is_some_frame, is_ready, live_count}
 use Rattle.tam_graph.specs.Graphs.{Graph}
 use Rattle.tl0_code.specs.ThreadCode.{Program}
 use Rattle.tl0_code.specs.Machines.{Machine, Giving}

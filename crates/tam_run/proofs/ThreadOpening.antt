@@ -4,7 +4,7 @@ use Rattle.std.specs.Prelude.{Option, None, Some, slice_get, replicate}
 use Rattle.tam_msgs.specs.declared.limits.Limits.{Limits}
 use Rattle.tam_msgs.specs.declared.item.Item.{Item}
 use Rattle.tam_msgs.specs.Messages.{outside}
-use Rattle.tam_frames.specs.FrameTables.{frame_at}
+use Rattle.frame_tables.specs.FrameTables.{frame_at}
 use Rattle.tl0_code.specs.ThreadCode.{Program, code_text}
 use Rattle.tl0_code.specs.Machines.{Machine, spend_of}
 use Rattle.tl0_code.specs.ThreadRuns.{nothing_begun, with_frame, or_machine, thread_opening, thread_told}

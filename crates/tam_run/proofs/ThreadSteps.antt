@@ -14,7 +14,7 @@ use Rattle.tam_msgs.specs.declared.choice.Choice.TheVariants.{Quiet as Choose_qu
 use Rattle.tam_msgs.specs.Messages.{outside}
 use Rattle.tam_msgs.specs.Runs.{Ended, Next, Budget_spent, Wild, Wild_place, Wild_frame, Wild_skip, Frames_full, Cells_full, choice}
 use Rattle.tam_istr.specs.Cells.{Access, Now, Deferred, Stored, Twice, NotBelow, NoArray, fetched_from, stored_into, cells_used, with_array}
-use Rattle.tam_frames.specs.FrameTables.{FrameTable, frame_at, is_live, is_ready, next_thread, next_number}
+use Rattle.frame_tables.specs.FrameTables.{FrameTable, frame_at, is_live, is_ready, next_thread, next_number}
 use Rattle.tl0_code.specs.declared.inlet.Inlet.{Inlet}
 use Rattle.tl0_code.specs.declared.instr.Instr.{Instr}
 use Rattle.tl0_code.specs.declared.instr.Instr.TheVariants.{Imm, Mov, Op as Operate, Fork, Switch, Falloc, Send, Ret, Ialloc, Ifetch, Istore, Skip}

@@ -10,7 +10,7 @@ use Rattle.tam_word.specs.Words.{meaning}
 use Rattle.tam_msgs.specs.Messages.{site}
 use Rattle.tam_msgs.specs.Runs.{WildCause, Wild_thread, Wild_skip}
 use Rattle.tam_istr.specs.Cells.{Arrays}
-use Rattle.tam_frames.specs.FrameTables.{FrameTable, frame_at, slot_in, with_slot, spent, lowered, given_back, rested}
+use Rattle.frame_tables.specs.FrameTables.{FrameTable, frame_at, slot_in, with_slot, spent, lowered, given_back, rested}
 
 -- the state of a run
 pub record Machine : Type 0 where

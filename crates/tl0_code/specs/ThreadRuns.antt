@@ -13,7 +13,7 @@ use Rattle.tam_msgs.specs.Messages.{outside, answers}
 use Rattle.tam_istr.specs.Cells.{Access, Now, Deferred, Stored, Twice, NotBelow, NoArray, with_array, cells_used, fetched_from, stored_into}
 use Rattle.tam_msgs.specs.Runs.{choice, Wild_frame, Wild_inlet, Wild_array, Wild_place, End, Quiet, Double_write, Out_of_range, Frames_full, Cells_full}
 use Rattle.tam_msgs.specs.Runs.{Budget_spent, Wild, Outcome, Next, Ended, run_from, Report, text_of}
-use Rattle.tam_frames.specs.FrameTables.{FrameTable, no_frames, is_live, live_count, next_number, taken, with_slot as with_slot_in, next_thread, is_ready}
+use Rattle.frame_tables.specs.FrameTables.{FrameTable, no_frames, is_live, live_count, next_number, taken, with_slot as with_slot_in, next_thread, is_ready}
 use Rattle.tl0_code.specs.ThreadCode.{CodeText, Program, code_text, thread_at, counts_of, widest_slots, widest_threads}
 use Rattle.tl0_code.specs.Machines.{Machine, Form, Plain, Owing, Giving, code_at, put, with_message, Progress, Fine, Broken, spend, then_do, done_thread}
 

@@ -7,7 +7,7 @@ use Rattle.tam_graph.specs.declared.kind.Kind.TheVariants.{Cond}
 use Rattle.tam_graph.specs.Graphs.{Code, Graph, code_of, kind_at, block_at, owner_of}
 use Rattle.tam_split.specs.Partitions.{Parts}
 use Rattle.tam_split.specs.GraphPartitions.{partitions, or_none}
-use Rattle.tam_frames.specs.FrameTables.{Frame, FrameTable, frame_at}
+use Rattle.frame_tables.specs.FrameTables.{Frame, FrameTable, frame_at}
 use Rattle.tam_world.specs.Worlds.{has_entered}
 use Rattle.tam_flow.specs.Journals.{State, state_after, has_run, parts_of_act}
 use Rattle.tl0_code.specs.ThreadCode.{Thread, code_text, plain}

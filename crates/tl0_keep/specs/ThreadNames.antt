@@ -12,7 +12,7 @@ use Rattle.tam_flow.specs.Journals.{Event, State, state_after, on_their_way}
 use Rattle.tam_flow.specs.JournalLaws.{IsJournal}
 use Rattle.tam_flow.specs.RunJournals.{IsCharged}
 use Rattle.tam_flow.specs.BorneOut.{WantsActivation}
-use Rattle.tam_frames.specs.FrameTables.{frame_at, is_live}
+use Rattle.frame_tables.specs.FrameTables.{frame_at, is_live}
 use Rattle.tl0_code.specs.Machines.{Machine}
 use Rattle.tl0_keep.specs.Compiled.{inlet_of}
 

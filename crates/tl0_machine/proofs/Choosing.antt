@@ -7,7 +7,7 @@ use Rattle.tam_msgs.specs.declared.step.Step.{Step}
 use Rattle.tam_msgs.specs.declared.choice.Choice.{Choice}
 use Rattle.tam_msgs.specs.declared.choice.Choice.TheVariants.{Run as Choose_run, Deliver as Choose_delivery}
 use Rattle.tam_msgs.specs.Runs.{choice}
-use Rattle.tam_frames.specs.FrameTables.{FrameTable, is_ready, next_thread}
+use Rattle.frame_tables.specs.FrameTables.{FrameTable, is_ready, next_thread}
 use Rattle.tl0_code.specs.declared.instr.Instr.{Instr}
 use Rattle.tl0_code.specs.ThreadCode.{Program, thread_at}
 use Rattle.tl0_code.specs.Machines.{Machine, Giving, done_thread}

@@ -10,8 +10,8 @@ use Rattle.tam_msgs.specs.declared.item.Item.{Item}
 use Rattle.tam_msgs.specs.declared.limits.Limits.{Limits}
 use Rattle.tam_msgs.specs.declared.message.Message.TheVariants.{Word as Carry, Frame as Begin}
 use Rattle.tam_msgs.specs.Runs.{Ended, Wild, Wild_thread}
-use Rattle.tam_frames.specs.FrameTables.{Frame, FrameTable, or_frame, frame_at, is_live, live_count, new_frame, changed_in, with_new, next_number_of}
-use Rattle.tam_frames.specs.FrameTables.{next_number, with_slot, taken}
+use Rattle.frame_tables.specs.FrameTables.{Frame, FrameTable, or_frame, frame_at, is_live, live_count, new_frame, changed_in, with_new, next_number_of}
+use Rattle.frame_tables.specs.FrameTables.{next_number, with_slot, taken}
 use Rattle.tl0_code.specs.ThreadCode.{Program, code_text, counts_of, widest_slots, widest_threads}
 use Rattle.tl0_code.specs.Machines.{Machine, Giving, Broken, spend_of}
 use Rattle.tl0_code.specs.ThreadRuns.{delivered, text_at, word_into, with_frame, begin, begin_for}

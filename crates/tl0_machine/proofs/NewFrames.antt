@@ -7,8 +7,8 @@ use Rattle.tam_word.proofs.Each.{get-last}
 use Rattle.tam_word.proofs.PutAt.{slice_index_or-put_at}
 use Rattle.tam_msgs.specs.declared.limits.Limits.{Limits}
 use Rattle.tam_istr.specs.Cells.{Arrays, cells_used}
-use Rattle.tam_frames.specs.FrameTables.{Frame, FrameTable, or_frame, is_some_frame, is_live, frame_at, count_in, new_frame, with_new, next_number_of}
-use Rattle.tam_frames.specs.FrameTables.{next_number, taken, with_slot}
+use Rattle.frame_tables.specs.FrameTables.{Frame, FrameTable, or_frame, is_some_frame, is_live, frame_at, count_in, new_frame, with_new, next_number_of}
+use Rattle.frame_tables.specs.FrameTables.{next_number, taken, with_slot}
 use Rattle.tam_frames.specs.StoredFrames.{StoredFrames, with_table}
 use Rattle.tam_frames.proofs.LiveLemmas.{live-changed}
 use Rattle.tl0_code.specs.ThreadCode.{Program}

@@ -2,8 +2,8 @@
 use Rattle.std.proofs.Common.{◌≡◌, ◌≢◌, ℕ, zero, suc, refl, Some}
 use Rattle.std.specs.Prelude.{slice_get}
 use Rattle.tam_msgs.specs.Runs.{Wild_thread}
-use Rattle.tam_frames.specs.declared.spend.Spend.TheVariants.{Spent}
-use Rattle.tam_frames.specs.FrameTables.{frame_at, count_in, spent, spend_answer}
+use Rattle.frame_tables.specs.declared.answers.Spend.TheVariants.{Spent}
+use Rattle.frame_tables.specs.FrameTables.{frame_at, count_in, spent, spend_answer}
 use Rattle.tl0_code.specs.Machines.{Machine, Fine, Broken, branch, spend, spend_of}
 
 -- a word that isn't 0 chooses the first thread

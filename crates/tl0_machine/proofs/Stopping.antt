@@ -2,7 +2,7 @@
 use Rattle.std.proofs.Common.{◌≡◌, ◌∙◌, ℕ, zero, suc, ◌-◌, true, false, List, [], ◌∷◌, Option, Some, None, refl, ap}
 use Rattle.std.specs.Prelude.{slice_get}
 use Rattle.tam_msgs.specs.Runs.{Wild_skip}
-use Rattle.tam_frames.specs.FrameTables.{Frame, FrameTable, or_frame, is_some_frame, is_live, frame_at, changed_in, changed, lowered}
+use Rattle.frame_tables.specs.FrameTables.{Frame, FrameTable, or_frame, is_some_frame, is_live, frame_at, changed_in, changed, lowered}
 use Rattle.tam_frames.specs.StoredFrames.{StoredFrames, with_table, has_any, is_busy}
 use Rattle.tam_frames.proofs.LiveLemmas.{live-changed}
 use Rattle.tl0_code.specs.Machines.{Machine, Giving, Fine, Broken, at_rest, with_given, owing_less, stopped, all_done}

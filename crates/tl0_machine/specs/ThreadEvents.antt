@@ -10,7 +10,7 @@ use Rattle.tam_msgs.specs.declared.choice.Choice.{Choice}
 use Rattle.tam_msgs.specs.declared.choice.Choice.TheVariants.{Quiet as Choose_quiet, Run as Choose_run, Deliver as Choose_delivery}
 use Rattle.tam_msgs.specs.Runs.{choice, Quiet, Double_write, Out_of_range, Frames_full, Cells_full, Budget_spent, Wild, WildCause, Outcome, Next, Ended}
 use Rattle.tam_istr.specs.Cells.{Arrays}
-use Rattle.tam_frames.specs.FrameTables.{FrameTable, is_ready, next_number, taken, with_slot}
+use Rattle.frame_tables.specs.FrameTables.{FrameTable, is_ready, next_number, taken, with_slot}
 use Rattle.tam_frames.specs.StoredFrames.{StoredFrames}
 use Rattle.tl0_code.specs.ThreadCode.{Program, code_text}
 use Rattle.tl0_code.specs.Machines.{Machine}

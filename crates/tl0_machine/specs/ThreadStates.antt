@@ -11,7 +11,7 @@ use Rattle.tam_msgs.specs.declared.stop.Stop.TheVariants.{DoubleWrite, OutOfRang
 use Rattle.tam_msgs.specs.PendingMessages.{PendingMessages}
 use Rattle.tam_msgs.specs.Runs.{WildCause, Wild_frame, Wild_inlet, Wild_thread, Wild_array, Wild_place, Wild_skip}
 use Rattle.tam_istr.specs.Cells.{Arrays, cells_used}
-use Rattle.tam_frames.specs.FrameTables.{FrameTable, is_live}
+use Rattle.frame_tables.specs.FrameTables.{FrameTable, is_live}
 use Rattle.tam_frames.specs.StoredFrames.{StoredFrames}
 use Rattle.tl0_code.specs.ThreadCode.{Program, code_text, widest_slots, widest_threads}
 use Rattle.tl0_code.specs.Machines.{Machine, Progress, Fine, Broken}

@@ -1,7 +1,7 @@
 // One event.
 ghost use Rattle.std.specs.Prelude.{ℕ, List, ◌≡◌, ◌+◌, ◌<◌, ◌≤◌, length, slice_get, IsTrue};
 ghost use Rattle.tam_msgs.specs.Messages.{AreLimits};
-ghost use Rattle.tam_frames.specs.FrameTables.{is_ready, next_thread};
+ghost use Rattle.frame_tables.specs.FrameTables.{is_ready, next_thread};
 ghost use Rattle.tl0_code.specs.Machines.{Giving};
 ghost use Rattle.tl0_code.specs.ThreadRuns.{run_next, delivered_at};
 ghost use Rattle.tl0_machine.specs.ThreadStates.{state_of, IsKept, HasFewBegun};

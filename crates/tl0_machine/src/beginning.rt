@@ -3,7 +3,7 @@ ghost use Rattle.std.specs.Prelude.{ℕ, List, ◌≡◌, ◌≢◌, ◌+◌, �
 ghost use Rattle.tam_word.specs.Lists.{put_at};
 ghost use Rattle.tam_msgs.specs.declared.item.Item.{Item};
 ghost use Rattle.tam_msgs.specs.declared.limits.Limits.{Limits};
-ghost use Rattle.tam_frames.specs.FrameTables.{is_live, live_count, next_number, count_in};
+ghost use Rattle.frame_tables.specs.FrameTables.{is_live, live_count, next_number, count_in};
 ghost use Rattle.tl0_code.specs.Machines.{Fine};
 ghost use Rattle.tl0_code.specs.ThreadRuns.{begin};
 ghost use Rattle.tl0_machine.specs.ThreadStates.{HasRoom, IsKept, beside_frames, beside_begin, machine_of};

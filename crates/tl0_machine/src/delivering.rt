@@ -4,7 +4,7 @@ ghost use Rattle.tam_istr.specs.Cells.{fetched_from, stored_into, cells_used};
 ghost use Rattle.tam_istr.specs.CellAnswers.{reader_pair};
 ghost use Rattle.tam_msgs.specs.Messages.{AreLimits, answers};
 ghost use Rattle.tam_msgs.specs.declared.limits.Limits.{Limits};
-ghost use Rattle.tam_frames.specs.FrameTables.{is_live};
+ghost use Rattle.frame_tables.specs.FrameTables.{is_live};
 ghost use Rattle.tl0_code.specs.ThreadCode.{Program, code_text};
 ghost use Rattle.tl0_code.specs.Machines.{Giving};
 ghost use Rattle.tl0_code.specs.ThreadRuns.{delivered, printed_outside, word_into, accessed};

@@ -2,7 +2,7 @@
 ghost use Rattle.std.specs.Prelude.{ℕ, List, ◌≡◌, ◌<◌, ◌≤◌, slice_index, IsTrue};
 ghost use Rattle.tam_msgs.specs.declared.item.Item.{Item};
 ghost use Rattle.tam_msgs.specs.Messages.{site};
-ghost use Rattle.tam_frames.specs.FrameTables.{is_live, slot_in};
+ghost use Rattle.frame_tables.specs.FrameTables.{is_live, slot_in};
 ghost use Rattle.tl0_code.specs.Machines.{Giving, Fine, put, spend, skipped, done, done_all, stopped, done_thread, with_message};
 ghost use Rattle.tam_word.specs.Lists.{all_of};
 ghost use Rattle.tl0_machine.specs.QuickEvents.{WantsNothing, is_silent};

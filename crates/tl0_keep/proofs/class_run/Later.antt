@@ -14,7 +14,7 @@ use Rattle.tam_world.specs.Worlds.{World, activation_at, its_code, has_word, has
 use Rattle.tam_flow.specs.Journals.{State, has_run}
 use Rattle.tam_flow.specs.Reached.{IsThere}
 use Rattle.tam_flow.proofs.Gifts.{SameFrames}
-use Rattle.tam_frames.specs.FrameTables.{frame_at}
+use Rattle.frame_tables.specs.FrameTables.{frame_at}
 use Rattle.tl0_code.specs.Machines.{Machine}
 use Rattle.tl0_keep.specs.Compiled.{yes_of, no_of, inlet_of}
 use Rattle.tl0_keep.specs.ThreadNames.{inlet_at, thread_message, thread_reader, thread_cell, thread_arrays}

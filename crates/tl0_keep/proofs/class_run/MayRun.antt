@@ -198,7 +198,7 @@ module _ (g : Graph) (args : List ℕ) (accepted : IsAccepted g) (all : Partitio
   class-entered b k Begun h = absurd h.reason
 
   module _ (b k : ℕ) (thread : IsThread (its_code g s.world i) (parts_in g all s others i) (Class b k))
-      (ready : In (number_of_thread (its_code g s.world i) (parts_in g all s others i) (Class b k)) (Rattle.tam_frames.specs.FrameTables.frame_at m.table
+      (ready : In (number_of_thread (its_code g s.world i) (parts_in g all s others i) (Class b k)) (Rattle.frame_tables.specs.FrameTables.frame_at m.table
       i).ready) where
     the_keeps : ThreadKeeps g all m s others [] i (Class b k)
     the_keeps = keeps.threads i (Class b k) there thread

@@ -10,7 +10,7 @@ use Rattle.tam_flow.specs.Journals.{State}
 use Rattle.tam_flow.specs.Reached.{IsThere, Has}
 use Rattle.tam_flow.proofs.Onward.{word-one}
 use Rattle.tam_flow.proofs.Gifts.{Leaves}
-use Rattle.tam_frames.specs.FrameTables.{frame_at}
+use Rattle.frame_tables.specs.FrameTables.{frame_at}
 use Rattle.tl0_code.specs.ThreadCode.{code_text, plain}
 use Rattle.tl0_code.specs.Machines.{Machine, slot, put}
 use Rattle.tl0_keep.specs.Compiled.{slot_of, compiled_with}

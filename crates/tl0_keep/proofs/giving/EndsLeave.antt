@@ -12,7 +12,7 @@ use Rattle.tam_msgs.specs.declared.limits.Limits.{Limits}
 use Rattle.tam_msgs.specs.Messages.{outside}
 use Rattle.tam_msgs.specs.Runs.{End, Outcome, Next, Ended, choice, and_then, after_events}
 use Rattle.tam_istr.specs.Cells.{Arrays, Access, Now, Deferred, Stored, Twice, NotBelow, NoArray, fetched_from, stored_into, cells_used}
-use Rattle.tam_frames.specs.FrameTables.{FrameTable, is_live, is_ready, next_thread}
+use Rattle.frame_tables.specs.FrameTables.{FrameTable, is_live, is_ready, next_thread}
 use Rattle.tl0_code.specs.declared.inlet.Inlet.{Inlet}
 use Rattle.tl0_code.specs.ThreadCode.{Program, code_text, thread_at}
 use Rattle.tl0_code.specs.Machines.{Machine, Form, Progress, Fine, Broken, done_thread, put, spend}

@@ -13,8 +13,8 @@ use Rattle.tam_msgs.specs.declared.limits.Limits.{Limits}
 use Rattle.tam_msgs.specs.Messages.{outside}
 use Rattle.tam_msgs.specs.Runs.{End, Next, Ended, choice}
 use Rattle.tam_istr.specs.Cells.{Access, Now, Deferred, Stored, Twice, NotBelow, NoArray, fetched_from, stored_into, cells_used}
-use Rattle.tam_frames.specs.FrameTables.{Frame, FrameTable, or_frame, frame_at, is_held, is_live, live_count, is_ready, changed_in, next_thread}
-use Rattle.tam_frames.specs.FrameTables.{next_number, next_number_of, new_frame, with_new, taken, spent_of, count_in}
+use Rattle.frame_tables.specs.FrameTables.{Frame, FrameTable, or_frame, frame_at, is_held, is_live, live_count, is_ready, changed_in, next_thread}
+use Rattle.frame_tables.specs.FrameTables.{next_number, next_number_of, new_frame, with_new, taken, spent_of, count_in}
 use Rattle.tl0_code.specs.declared.inlet.Inlet.{Inlet}
 use Rattle.tl0_code.specs.declared.instr.Instr.{Instr}
 use Rattle.tl0_code.specs.declared.instr.Instr.TheVariants.{Imm, Mov, Op as Operate, Fork, Switch, Falloc, Send, Ret, Ialloc, Ifetch, Istore, Skip}

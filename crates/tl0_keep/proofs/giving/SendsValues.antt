@@ -19,7 +19,7 @@ use Rattle.tam_flow.specs.Reached.{IsThere}
 use Rattle.tam_flow.proofs.JournalsReached.{journals-reached}
 use Rattle.tam_flow.proofs.Arriving.{arrived-journal}
 use Rattle.tam_flow.proofs.OnTheWay.{way_from, way-is, way-sent}
-use Rattle.tam_frames.specs.FrameTables.{Frame, FrameTable, or_frame, frame_at, current_of, is_ready, is_ready_of}
+use Rattle.frame_tables.specs.FrameTables.{Frame, FrameTable, or_frame, frame_at, current_of, is_ready, is_ready_of}
 use Rattle.tl0_code.specs.ThreadCode.{plain}
 use Rattle.tl0_code.specs.Machines.{Machine, Plain, Owing}
 use Rattle.tl0_code.specs.ThreadRuns.{step_of, thread_opening}

@@ -18,7 +18,7 @@ use Rattle.tam_flow.specs.Journals.{state_after, on_their_way}
 use Rattle.tam_flow.specs.BorneOut.{BearsOut, IsBorneOut, WantsActivation}
 use Rattle.tam_flow.specs.RunJournals.{IsCharged}
 use Rattle.tam_flow.proofs.RightJournals.{borne-right}
-use Rattle.tam_frames.specs.FrameTables.{Frame, is_held}
+use Rattle.frame_tables.specs.FrameTables.{Frame, is_held}
 use Rattle.tl0_code.specs.ThreadCode.{Program}
 use Rattle.tl0_code.specs.Machines.{Machine, Giving, spend_of}
 use Rattle.tl0_code.specs.ThreadRuns.{step_of, thread_opening, nothing_begun, with_frame, or_machine, thread_report, thread_told}

@@ -27,7 +27,7 @@ use Rattle.tam_flow.proofs.Gifts.{gift, opens}
 use Rattle.tam_flow.proofs.Onward.{word-one}
 use Rattle.tam_flow.proofs.Operands.{named-block}
 use Rattle.tam_flow.proofs.SentOnce.{HasFired}
-use Rattle.tam_frames.specs.FrameTables.{frame_at}
+use Rattle.frame_tables.specs.FrameTables.{frame_at}
 use Rattle.tl0_code.specs.Machines.{Machine}
 use Rattle.tl0_keep.specs.Compiled.{is_choosing, yes_of, no_of, then_block, else_block}
 use Rattle.tl0_keep.specs.OwedThreads.{AllHaveRun}

@@ -8,7 +8,7 @@ use Rattle.tam_graph.specs.Accepted.{IsAccepted}
 use Rattle.tam_graph.proofs.FewNodes.{length-below}
 use Rattle.tam_split.specs.Partitions.{Parts}
 use Rattle.tam_split.specs.GraphPartitions.{Partitions, partitions}
-use Rattle.tam_frames.specs.FrameTables.{FrameTable, frame_at}
+use Rattle.frame_tables.specs.FrameTables.{FrameTable, frame_at}
 use Rattle.tl0_code.specs.ThreadCode.{Program, code_text}
 use Rattle.tl0_keep.specs.Compiled.{compiled_with, is_choosing}
 use Rattle.tl0_keep.specs.OwedThreads.{RunsFor, Opens, Is_class, Leads_then, Leads_else, HasRun, IsPassedOver, Then_ran, Else_ran, WasSkipped}

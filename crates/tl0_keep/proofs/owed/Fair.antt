@@ -35,7 +35,7 @@ use Rattle.tam_flow.proofs.SentOnce.{HasFired, IsOnceState}
 use Rattle.tam_flow.proofs.WordSenders.{IsFor}
 use Rattle.tam_flow.proofs.WordSources.{IsWordState, IsWaiting, IsAskOf}
 use Rattle.tam_flow.proofs.WordsOnce.{words-journal, one-word-each}
-use Rattle.tam_frames.specs.FrameTables.{Frame, frame_at, or_frame}
+use Rattle.frame_tables.specs.FrameTables.{Frame, frame_at, or_frame}
 use Rattle.tl0_code.specs.ThreadCode.{code_text, plain}
 use Rattle.tl0_code.specs.Machines.{Machine, Plain, code_at}
 use Rattle.tl0_keep.specs.Compiled.{compiled_with, yes_of, no_of}

@@ -10,7 +10,7 @@ use Rattle.tam_graph.proofs.FewNodes.{length-below}
 use Rattle.tam_split.specs.GraphPartitions.{Partitions}
 use Rattle.tam_world.specs.Worlds.{has_entered}
 use Rattle.tam_flow.specs.Journals.{State}
-use Rattle.tam_frames.specs.FrameTables.{FrameTable, frame_at}
+use Rattle.frame_tables.specs.FrameTables.{FrameTable, frame_at}
 use Rattle.tl0_code.specs.ThreadCode.{Program, code_text, counts_of}
 use Rattle.tl0_code.specs.Machines.{Machine, code_at}
 use Rattle.tl0_keep.specs.ThreadNames.{names_of}

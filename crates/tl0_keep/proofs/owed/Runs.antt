@@ -16,7 +16,7 @@ use Rattle.tam_msgs.specs.declared.choice.Choice.TheVariants.{Quiet as Choose_qu
 use Rattle.tam_msgs.specs.Messages.{outside}
 use Rattle.tam_msgs.specs.Runs.{WildCause, Wild_skip, End, Wild, Budget_spent, Outcome, Next, Ended, choice, and_then, after_events}
 use Rattle.tam_world.specs.Worlds.{has_entered}
-use Rattle.tam_frames.specs.FrameTables.{FrameTable, frame_at, is_ready, next_thread}
+use Rattle.frame_tables.specs.FrameTables.{FrameTable, frame_at, is_ready, next_thread}
 use Rattle.tl0_code.specs.declared.instr.Instr.{Instr}
 use Rattle.tl0_code.specs.ThreadCode.{Thread, CodeText, Program, or_text, code_text, counts_of, plain, is_plain, thread_at}
 use Rattle.tl0_code.specs.Machines.{Machine, Plain, Owing, Progress, Fine, Broken, code_at, done_thread, put}

@@ -15,7 +15,7 @@ use Rattle.tam_msgs.specs.declared.limits.Limits.{Limits}
 use Rattle.tam_msgs.specs.Messages.{outside, answers}
 use Rattle.tam_msgs.specs.Runs.{WildCause, Wild_frame, Wild_thread, Wild_place, Wild_skip, Wild, Cells_full, Outcome, Next, Ended}
 use Rattle.tam_istr.specs.Cells.{Access, Now, Deferred, Stored, Twice, NotBelow, NoArray, with_array, cells_used, fetched_from, stored_into}
-use Rattle.tam_frames.specs.FrameTables.{Frame, FrameTable, or_frame, frame_at, is_live, new_frame, with_new, taken, next_number, next_number_of}
+use Rattle.frame_tables.specs.FrameTables.{Frame, FrameTable, or_frame, frame_at, is_live, new_frame, with_new, taken, next_number, next_number_of}
 use Rattle.tl0_code.specs.declared.inlet.Inlet.{Inlet}
 use Rattle.tl0_code.specs.declared.instr.Instr.TheVariants.{Fork}
 use Rattle.tl0_code.specs.ThreadCode.{Program, Thread, code_text, counts_of, widest_slots, widest_threads}

@@ -5,7 +5,7 @@ use Rattle.tam_word.proofs.Members.{In, Distinct}
 use Rattle.tam_graph.specs.Graphs.{Graph, code_of}
 use Rattle.tam_split.specs.GraphPartitions.{Partitions}
 use Rattle.tam_msgs.specs.Runs.{WildCause, Wild_thread, Wild_skip}
-use Rattle.tam_frames.specs.FrameTables.{Frame, FrameTable, frame_at, lowered, rested}
+use Rattle.frame_tables.specs.FrameTables.{Frame, FrameTable, frame_at, lowered, rested}
 use Rattle.tl0_code.specs.declared.instr.Instr.{Instr}
 use Rattle.tl0_code.specs.ThreadCode.{Program, CodeText, code_text, plain, is_plain}
 use Rattle.tl0_code.specs.Machines.{Machine, Plain, Owing, Progress, Fine, Broken, code_at, then_do, done_all, done_thread, owing_less, at_rest}

@@ -4,7 +4,7 @@ use Rattle.std.proofs.Common.{◌∙◌, arith, inl, inr, ◌⊎◌, true≢fals
 use Rattle.std.proofs.lemmas.Option.{none-some, same_Some, slice_get_within}
 use Rattle.tam_word.proofs.Members.{In, Distinct}
 use Rattle.tam_msgs.specs.Runs.{WildCause, Wild_thread}
-use Rattle.tam_frames.specs.FrameTables.{Frame, FrameTable, or_frame, no_frame, frame_at, changed_in, changed, spent, rested, given_of, next_of, next_thread}
+use Rattle.frame_tables.specs.FrameTables.{Frame, FrameTable, or_frame, no_frame, frame_at, changed_in, changed, spent, rested, given_of, next_of, next_thread}
 use Rattle.tl0_code.specs.declared.instr.Instr.{Instr}
 use Rattle.tl0_code.specs.declared.instr.Instr.TheVariants.{Imm, Mov, Op as Operate, Fork, Switch, Falloc, Send, Ret, Ialloc, Ifetch, Istore, Skip}
 use Rattle.tl0_code.specs.ThreadCode.{is_plain}

@@ -9,7 +9,7 @@ use Rattle.tam_graph.specs.Graphs.{Code, Graph, code_of, kind_at, block_at, owne
 use Rattle.tam_graph.specs.Accepted.{IsAccepted}
 use Rattle.tam_split.specs.GraphPartitions.{Partitions}
 use Rattle.tam_world.specs.Worlds.{has_entered}
-use Rattle.tam_frames.specs.FrameTables.{Frame, FrameTable, frame_at, lowered, next_thread}
+use Rattle.frame_tables.specs.FrameTables.{Frame, FrameTable, frame_at, lowered, next_thread}
 use Rattle.tl0_code.specs.declared.instr.Instr.{Instr}
 use Rattle.tl0_code.specs.declared.instr.Instr.TheVariants.{Skip}
 use Rattle.tl0_code.specs.ThreadCode.{Program, Thread, code_text, plain, is_plain, thread_at}

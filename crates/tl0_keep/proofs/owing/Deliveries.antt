@@ -11,7 +11,7 @@ use Rattle.tl0_code.specs.declared.instr.Instr.{Instr}
 use Rattle.tam_msgs.specs.Messages.{outside}
 use Rattle.tam_istr.specs.Cells.{Access, Now, Deferred, Stored, Twice, NotBelow, NoArray, cells_used, fetched_from, stored_into, with_array}
 use Rattle.tam_msgs.specs.Runs.{Quiet, Cells_full, Wild, Wild_skip, Wild_frame, Wild_place, Outcome, Next, Ended}
-use Rattle.tam_frames.specs.FrameTables.{FrameTable, is_live, next_number, taken, with_slot as with_slot_in, next_thread}
+use Rattle.frame_tables.specs.FrameTables.{FrameTable, is_live, next_number, taken, with_slot as with_slot_in, next_thread}
 use Rattle.tl0_code.specs.ThreadCode.{CodeText, Program, code_text, thread_at, counts_of, widest_slots, widest_threads, is_plain, plain}
 use Rattle.tl0_code.specs.Machines.{Machine, Plain, code_at, put, with_message, Progress, Fine, Broken, spend, then_do, done_thread}
 use Rattle.tl0_code.specs.ThreadRuns.{text_at, as_outcome, run_taken, run_next, printed_outside, word_into, with_frame, begin, begin_for, accessed}

@@ -1,11 +1,11 @@
 -- A table of frames in which none owes: what each word on tables says of it.
 use Rattle.std.proofs.Common.{◌≡◌, ℕ, zero, suc, ◌-◌, List, [], ◌∷◌, ◌++◌, map, Option, Some, None, slice_get, slice_index, slice_set, refl, sym, ap, ◌∙◌}
 use Rattle.std.proofs.lemmas.List.{map-set, map-append, length-map}
-use Rattle.tam_frames.specs.FrameTables.{Frame, FrameTable, or_frame, frame_at, is_some_frame, is_live, changed_in, changed, next_number_of}
-use Rattle.tam_frames.specs.FrameTables.{next_number, with_new, taken, new_frame}
-use Rattle.tam_frames.specs.FrameTables.{lowered, slot_in, with_slot, with_count, made_ready, spent_of, spent, count_in, current_of, rested, given_of}
-use Rattle.tam_frames.specs.FrameTables.{next_of, next_thread}
-use Rattle.tam_frames.specs.FrameTables.{is_ready_of, is_ready}
+use Rattle.frame_tables.specs.FrameTables.{Frame, FrameTable, or_frame, frame_at, is_some_frame, is_live, changed_in, changed, next_number_of}
+use Rattle.frame_tables.specs.FrameTables.{next_number, with_new, taken, new_frame}
+use Rattle.frame_tables.specs.FrameTables.{lowered, slot_in, with_slot, with_count, made_ready, spent_of, spent, count_in, current_of, rested, given_of}
+use Rattle.frame_tables.specs.FrameTables.{next_of, next_thread}
+use Rattle.frame_tables.specs.FrameTables.{is_ready_of, is_ready}
 use Rattle.tl0_keep.specs.ThreadLaws.{without_owed, table_without_owed}
 
 -- a frame as one that owes nothing

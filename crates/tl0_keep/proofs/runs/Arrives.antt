@@ -22,7 +22,7 @@ use Rattle.tam_flow.specs.Reached.{IsThere, Has, cell_at}
 use Rattle.tam_flow.proofs.ActivationLists.{has-word, word-there}
 use Rattle.tam_flow.proofs.OnTheWay.{way_from, way-is, way-sent, AtPlace, at-place}
 use Rattle.tam_flow.proofs.Gifts.{HaveGot, got-one}
-use Rattle.tam_frames.specs.FrameTables.{FrameTable, frame_at}
+use Rattle.frame_tables.specs.FrameTables.{FrameTable, frame_at}
 use Rattle.tl0_code.specs.Machines.{Machine, slot}
 use Rattle.tl0_code.specs.ThreadCode.{code_text, plain}
 use Rattle.tl0_keep.specs.Compiled.{slot_of, compiled_with}

@@ -12,7 +12,7 @@ use Rattle.tam_split.specs.GraphPartitions.{Partitions}
 use Rattle.tam_world.specs.Worlds.{activation_at, its_code, delivered as delivered_in}
 use Rattle.tam_flow.specs.Journals.{State, on_their_way, after_delivery}
 use Rattle.tam_flow.specs.Reached.{IsThere, IsReached}
-use Rattle.tam_frames.specs.FrameTables.{FrameTable, frame_at, next_number, next_number_of, with_new, with_slot, new_frame, spent}
+use Rattle.frame_tables.specs.FrameTables.{FrameTable, frame_at, next_number, next_number_of, with_new, with_slot, new_frame, spent}
 use Rattle.tl0_code.specs.Machines.{Machine, Plain, Progress, Fine, Broken, spend, spend_of, with_message, then_do}
 use Rattle.tl0_code.specs.ThreadRuns.{delivered, with_frame, begin_for, as_outcome}
 use Rattle.tl0_code.specs.ThreadCode.{code_text, plain, counts_of, widest_slots, widest_threads}

@@ -18,7 +18,7 @@ use Rattle.tam_world.specs.Worlds.{World, Effect, Went, Printed, Faulted, Fault,
 use Rattle.tam_world.specs.Worlds.{sends_only, accessed as accessed_in, delivered as delivered_in}
 use Rattle.tam_flow.specs.Journals.{State, on_their_way, after_delivery}
 use Rattle.tam_flow.specs.Reached.{IsReached}
-use Rattle.tam_frames.specs.FrameTables.{FrameTable}
+use Rattle.frame_tables.specs.FrameTables.{FrameTable}
 use Rattle.tl0_code.specs.Machines.{Machine, Plain, with_message}
 use Rattle.tl0_code.specs.ThreadRuns.{delivered, accessed}
 use Rattle.tl0_code.specs.ThreadCode.{code_text, plain}

@@ -12,7 +12,7 @@ use Rattle.tam_world.specs.Worlds.{or_activation}
 use Rattle.tam_flow.specs.Journals.{State}
 use Rattle.tam_flow.specs.Reached.{IsThere, Has}
 use Rattle.tam_flow.proofs.Gifts.{HaveGot, got-one}
-use Rattle.tam_frames.specs.FrameTables.{Frame, FrameTable, frame_at, is_live}
+use Rattle.frame_tables.specs.FrameTables.{Frame, FrameTable, frame_at, is_live}
 use Rattle.tl0_code.specs.Machines.{Machine, Plain, slot, put, Progress, code_at}
 use Rattle.tl0_code.specs.ThreadRuns.{delivered, word_into, printed_outside, as_outcome, text_at}
 use Rattle.tl0_code.specs.ThreadCode.{code_text, plain}

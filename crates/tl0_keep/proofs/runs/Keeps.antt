@@ -16,7 +16,7 @@ use Rattle.tam_split.specs.GraphPartitions.{Partitions}
 use Rattle.tam_world.specs.Worlds.{World, activation_at, its_code, has_word, has_entered, ActivationState}
 use Rattle.tam_flow.specs.Journals.{State, has_run, on_their_way}
 use Rattle.tam_flow.specs.Reached.{IsThere, Has, cell_at}
-use Rattle.tam_frames.specs.FrameTables.{Frame, FrameTable, frame_at}
+use Rattle.frame_tables.specs.FrameTables.{Frame, FrameTable, frame_at}
 use Rattle.tl0_code.specs.ThreadCode.{Program, plain, widest_slots}
 use Rattle.tl0_code.specs.Machines.{Machine, slot}
 use Rattle.tl0_keep.specs.Compiled.{slot_of, inlet_of, yes_of, no_of, compiled_with}

@@ -16,7 +16,7 @@ use Rattle.tam_flow.specs.Journals.{State, has_run}
 use Rattle.tam_flow.specs.Reached.{IsThere, Has}
 use Rattle.tam_flow.proofs.ActivationLists.{has_among, was_entered, word-there, word_among}
 use Rattle.tam_flow.proofs.Moves.{length-push}
-use Rattle.tam_frames.specs.FrameTables.{Frame, FrameTable, frame_at, or_frame, with_slot, slot_in, new_frame}
+use Rattle.frame_tables.specs.FrameTables.{Frame, FrameTable, frame_at, or_frame, with_slot, slot_in, new_frame}
 use Rattle.tl0_code.specs.Machines.{Machine, slot}
 use Rattle.tl0_code.specs.ThreadCode.{code_text, plain, counts_of, widest_slots, widest_threads}
 use Rattle.tl0_keep.specs.Compiled.{slot_of, compiled_with, inlet_of}

@@ -16,7 +16,7 @@ use Rattle.tam_flow.specs.Reached.{IsThere, Has, cell_at}
 use Rattle.tam_istr.specs.Cells.{Empty, Reader}
 use Rattle.tam_flow.proofs.OnTheWay.{way-is, way-all}
 use Rattle.tam_flow.proofs.Nodes.{is-param}
-use Rattle.tam_frames.specs.FrameTables.{frame_at, no_frames}
+use Rattle.frame_tables.specs.FrameTables.{frame_at, no_frames}
 use Rattle.tl0_code.specs.Machines.{Machine, slot}
 use Rattle.tl0_code.specs.ThreadRuns.{nothing_begun, thread_opening, or_machine}
 use Rattle.tl0_code.specs.ThreadCode.{plain}

@@ -19,7 +19,7 @@ use Rattle.tam_flow.specs.Reached.{IsThere, IsReached, Has, WordSource}
 use Rattle.tam_flow.proofs.SingleRuns.{MayRun, may_run-parts}
 use Rattle.tam_flow.proofs.OnTheWay.{none-on_way}
 use Rattle.tam_flow.proofs.ActivationLists.{has-word}
-use Rattle.tam_frames.specs.FrameTables.{is_ready}
+use Rattle.frame_tables.specs.FrameTables.{is_ready}
 use Rattle.tl0_code.specs.Machines.{Machine}
 use Rattle.tl0_code.specs.ThreadCode.{code_text, plain}
 use Rattle.tl0_keep.specs.Compiled.{compiled_with, parts_at, yes_of, no_of, waits_for, is_choosing}

@@ -9,7 +9,7 @@ use Rattle.tam_graph.specs.Graphs.{Graph}
 use Rattle.tam_split.specs.GraphPartitions.{Partitions, partitions, or_none}
 use Rattle.tam_flow.specs.Journals.{Event, Run, state_after}
 use Rattle.tam_flow.specs.JournalLaws.{IsJournal}
-use Rattle.tam_frames.specs.FrameTables.{is_ready, next_thread}
+use Rattle.frame_tables.specs.FrameTables.{is_ready, next_thread}
 use Rattle.tl0_code.specs.ThreadCode.{Program, plain}
 use Rattle.tl0_code.specs.Machines.{Machine, Plain, code_at}
 use Rattle.tl0_code.specs.ThreadRuns.{step_of}

@@ -8,7 +8,7 @@ use Rattle.tam_split.specs.GraphPartitions.{Partitions}
 use Rattle.tam_world.specs.Worlds.{activation_at, its_code}
 use Rattle.tam_flow.specs.Journals.{State}
 use Rattle.tam_flow.specs.Reached.{IsThere, Has}
-use Rattle.tam_frames.specs.FrameTables.{Frame, frame_at, spent}
+use Rattle.frame_tables.specs.FrameTables.{Frame, frame_at, spent}
 use Rattle.tl0_code.specs.Machines.{Machine, Fine, slot, spend}
 use Rattle.tl0_code.specs.ThreadCode.{code_text, plain}
 use Rattle.tl0_keep.specs.Compiled.{slot_of, compiled_with}

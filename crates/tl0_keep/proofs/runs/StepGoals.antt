@@ -17,7 +17,7 @@ use Rattle.tam_flow.specs.JournalLaws.{IsJournal}
 use Rattle.tam_flow.specs.Reached.{IsThere}
 use Rattle.tam_flow.specs.RunJournals.{IsCharged}
 use Rattle.tam_flow.specs.BorneOut.{BearsOut}
-use Rattle.tam_frames.specs.FrameTables.{frame_at}
+use Rattle.frame_tables.specs.FrameTables.{frame_at}
 use Rattle.tl0_code.specs.declared.instr.Instr.{Instr}
 use Rattle.tl0_code.specs.declared.instr.Instr.TheVariants.{Imm, Mov, Op as Operate, Fork, Switch as Jump, Falloc, Send, Ret, Ialloc, Ifetch, Istore, Skip}
 use Rattle.tl0_code.specs.Machines.{spend_of, branch, slot, done, done_all, Fine, Broken, Machine, Plain, Progress, done_thread, then_do, stopped}

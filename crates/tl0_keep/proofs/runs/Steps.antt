@@ -18,7 +18,7 @@ use Rattle.tam_world.specs.Worlds.{Fault, activation_at, its_code}
 use Rattle.tam_flow.specs.Journals.{State, Event, Run, state_after, after_event}
 use Rattle.tam_flow.specs.Reached.{IsThere, IsReached}
 use Rattle.tam_flow.specs.RunJournals.{IsCharged}
-use Rattle.tam_frames.specs.FrameTables.{FrameTable, is_ready, next_thread}
+use Rattle.frame_tables.specs.FrameTables.{FrameTable, is_ready, next_thread}
 use Rattle.tl0_code.specs.declared.instr.Instr.{Instr}
 use Rattle.tl0_code.specs.Machines.{Machine, Plain, Progress, done_thread, then_do, stopped, at_rest}
 use Rattle.tl0_code.specs.ThreadRuns.{chosen, counted, run_next, run_taken, as_outcome}

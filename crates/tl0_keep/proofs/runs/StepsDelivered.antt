@@ -31,7 +31,7 @@ use Rattle.tam_flow.proofs.Moves.{length-push}
 use Rattle.tam_flow.proofs.Gifts.{got-one}
 use Rattle.tam_flow.proofs.Nodes.{right-depth}
 use Rattle.tam_flow.proofs.JournalsReached.{journals-reached}
-use Rattle.tam_frames.specs.FrameTables.{is_ready}
+use Rattle.frame_tables.specs.FrameTables.{is_ready}
 use Rattle.tl0_code.specs.Machines.{Machine, Plain}
 use Rattle.tl0_code.specs.ThreadRuns.{step_of, chosen, counted, delivered, delivered_at}
 use Rattle.tl0_code.specs.ThreadCode.{plain}

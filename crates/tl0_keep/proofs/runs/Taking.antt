@@ -3,7 +3,7 @@ use Rattle.std.proofs.Common.{◌≡◌, ℕ, ◌<◌, true, false, List, [], �
 use Rattle.std.proofs.Common.{refl, sym, ap, ap₂, subst, ◌∙◌, inl, inr, ◌⊎◌, true≢false}
 use Rattle.std.proofs.lemmas.Option.{same_Some}
 use Rattle.tam_word.proofs.Members.{In, Distinct}
-use Rattle.tam_frames.specs.FrameTables.{Frame, FrameTable, frame_at, changed, rested, current_of, next_thread, next_of, given_of, is_ready, is_ready_of}
+use Rattle.frame_tables.specs.FrameTables.{Frame, FrameTable, frame_at, changed, rested, current_of, next_thread, next_of, given_of, is_ready, is_ready_of}
 use Rattle.tl0_keep.proofs.giving.Places.{changed-length}
 use Rattle.tl0_keep.proofs.runs.Keeps.{TurnsKeep, IsRested}
 use Rattle.tl0_keep.proofs.runs.Frames.{same-or-other, IsHeld, frame-here, frame-other, held-changed}

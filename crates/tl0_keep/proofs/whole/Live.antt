@@ -5,7 +5,7 @@ use Rattle.tam_msgs.specs.declared.item.Item.{Item}
 use Rattle.tam_msgs.specs.declared.limits.Limits.{Limits}
 use Rattle.tam_msgs.specs.Messages.{outside}
 use Rattle.tam_msgs.specs.Runs.{Next}
-use Rattle.tam_frames.specs.FrameTables.{FrameTable, live_count}
+use Rattle.frame_tables.specs.FrameTables.{FrameTable, live_count}
 use Rattle.tl0_code.specs.ThreadCode.{Program}
 use Rattle.tl0_code.specs.Machines.{Machine, Giving, Progress, Fine, Broken}
 use Rattle.tl0_code.specs.ThreadRuns.{step_of, begin, or_machine, nothing_begun, thread_opening}

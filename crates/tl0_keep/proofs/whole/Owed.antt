@@ -4,7 +4,7 @@ use Rattle.tam_graph.specs.Graphs.{Graph, code_of}
 use Rattle.tam_split.specs.GraphPartitions.{partitions}
 use Rattle.tam_msgs.specs.declared.item.Item.{Item}
 use Rattle.tam_msgs.specs.declared.limits.Limits.{Limits}
-use Rattle.tam_frames.specs.FrameTables.{Frame, FrameTable, or_frame, frame_at}
+use Rattle.frame_tables.specs.FrameTables.{Frame, FrameTable, or_frame, frame_at}
 use Rattle.tl0_code.specs.ThreadCode.{Program, plain}
 use Rattle.tl0_code.specs.Machines.{Machine, Plain, Owing, Giving, code_at}
 use Rattle.tl0_code.specs.ThreadRuns.{step_of, thread_opening}

@@ -1,7 +1,7 @@
 use Rattle.std.proofs.Common.{rules, ◌≡◌, ◌∙◌, ℕ, ◌≤◌, List, Err, ap, subst, sym, arith}
 use Rattle.tam_msgs.specs.Runs.{Outcome}
 use Rattle.std.specs.Prelude.{slice_index}
-use Rattle.tam_frames.specs.FrameTables.{next_thread}
+use Rattle.frame_tables.specs.FrameTables.{next_thread}
 use Rattle.tam_frames.specs.StoredFrames.{StoredFrames}
 use Rattle.tl0_code.specs.ThreadCode.{code_text, thread_at, widest_slots, widest_threads}
 use Rattle.tl0_code.specs.Machines.{Machine, Giving, done_thread}

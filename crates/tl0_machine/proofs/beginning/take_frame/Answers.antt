@@ -1,5 +1,5 @@
 use Rattle.std.proofs.Common.{◌≡◌, ◌∙◌, ℕ, ◌<◌, ap, sym, subst, refl, true}
-use Rattle.tam_frames.specs.FrameTables.{count_in, is_live, next_number, taken}
+use Rattle.frame_tables.specs.FrameTables.{count_in, is_live, next_number, taken}
 use Rattle.tam_frames.specs.StoredFrames.{StoredFrames}
 use Rattle.tl0_machine.proofs.NewFrames.{count-taken, live-put, count-put}
 use Rattle.tl0_machine.proofs.beginning.take_frame.Goals as goal

@@ -1,7 +1,7 @@
 use Rattle.std.proofs.Common.{◌≡◌, ◌≢◌, ◌≤◌, ◌∙◌, length, false, Option, Some, None, sym, subst, refl}
 use Rattle.std.specs.Prelude.{IfNone, is_some}
 use Rattle.tam_msgs.specs.Runs.{Outcome, Wild_thread}
-use Rattle.tam_frames.specs.FrameTables.{live_count}
+use Rattle.frame_tables.specs.FrameTables.{live_count}
 use Rattle.tl0_code.specs.Machines.{Machine}
 use Rattle.tl0_machine.specs.ThreadStates.{machine_of}
 use Rattle.tl0_machine.specs.ThreadEvents.{IsWild}

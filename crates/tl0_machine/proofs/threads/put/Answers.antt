@@ -1,6 +1,6 @@
 use Rattle.std.proofs.Common.{◌∙◌, ap}
 use Rattle.std.specs.Prelude.{slice_set}
-use Rattle.tam_frames.specs.FrameTables.{is_live}
+use Rattle.frame_tables.specs.FrameTables.{is_live}
 use Rattle.tam_frames.specs.StoredFrames.{StoredFrames}
 use Rattle.tam_frames.proofs.LiveLemmas.{live-changed}
 use Rattle.tl0_machine.proofs.threads.put.Goals as goal

@@ -1,5 +1,5 @@
 use Rattle.std.proofs.Common.{◌≡◌, ◌∙◌, ap, ◌+◌, ◌%◌, ◌^◌, ℕ}
-use Rattle.tam_frames.specs.FrameTables.{slot_in}
+use Rattle.frame_tables.specs.FrameTables.{slot_in}
 use Rattle.tl0_machine.specs.ThreadStates.{machine_of}
 use Rattle.tl0_machine.proofs.threads.ret.Goals as goal
 

@@ -1,5 +1,5 @@
 use Rattle.std.proofs.Common.{◌∙◌, ◌-◌, ap}
-use Rattle.tam_frames.specs.FrameTables.{is_live}
+use Rattle.frame_tables.specs.FrameTables.{is_live}
 use Rattle.tam_frames.specs.StoredFrames.{StoredFrames}
 use Rattle.tam_frames.proofs.LiveLemmas.{live-changed}
 use Rattle.tl0_machine.proofs.threads.skip.Goals as goal

@@ -1,6 +1,6 @@
 use Rattle.std.proofs.Common.{◌≡◌, ◌≢◌, ◌∙◌, ap, sym, ⊎_elim}
-use Rattle.tam_frames.specs.declared.spend.Spend.TheVariants.{Left, Enabled, Spent}
-use Rattle.tam_frames.specs.FrameTables.{is_live, count_in, spend_answer}
+use Rattle.frame_tables.specs.declared.answers.Spend.TheVariants.{Left, Enabled, Spent}
+use Rattle.frame_tables.specs.FrameTables.{is_live, count_in, spend_answer}
 use Rattle.tam_frames.specs.StoredFrames.{StoredFrames}
 use Rattle.tam_frames.proofs.LiveLemmas.{live-spent}
 use Rattle.tl0_code.specs.Machines.{Fine}

@@ -1,5 +1,5 @@
 use Rattle.std.proofs.Common.{◌≡◌, ◌∙◌, ◌-◌, ap, sym, true, false, suc, arith}
-use Rattle.tam_frames.specs.FrameTables.{frame_at, lowered, rested, given_back}
+use Rattle.frame_tables.specs.FrameTables.{frame_at, lowered, rested, given_back}
 use Rattle.tam_frames.specs.StoredFrames.{StoredFrames, is_busy}
 use Rattle.tl0_code.specs.Machines.{Fine}
 use Rattle.tl0_machine.specs.ThreadStates.{machine_of}

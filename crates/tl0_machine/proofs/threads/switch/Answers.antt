@@ -1,5 +1,5 @@
 use Rattle.std.proofs.Common.{◌≡◌, ◌≢◌, ℕ, sym, subst, arith}
-use Rattle.tam_frames.specs.FrameTables.{slot_in}
+use Rattle.frame_tables.specs.FrameTables.{slot_in}
 use Rattle.tl0_code.specs.Machines.{spend}
 use Rattle.tl0_machine.specs.ThreadStates.{machine_of, IsProgress}
 use Rattle.tl0_machine.proofs.Spending.{branch-yes}

@@ -1,9 +1,11 @@
 // Instructions that are kept beside their words.
-ghost use Rattle.std.specs.Prelude.{ℕ, ◌≡◌, ◌+◌, ◌*◌, ◌%◌, ◌≤◌, ◌∷◌, [], List, length, replicate, IfOk, IfSome, None};
+ghost use Rattle.std.specs.Prelude.{ℕ, ◌≡◌, ◌+◌, ◌*◌, ◌%◌, ◌≤◌, ◌∷◌, [], List, length, replicate, IfOk, IfSome, Some};
+ghost use Rattle.rv_inst.specs.declared.inst.Inst.{Inst};
 ghost use Rattle.rv_inst.specs.Instructions.{decoded};
 ghost use Rattle.rv_inst.specs.Harts.{read_at, written_at};
-ghost use Rattle.rv_machine.specs.Keeping.{AreDecoded};
+ghost use Rattle.rv_machine.specs.Keeping.{AreDecoded, told, unknown};
 
+use crate::kept_inst::KeptInst;
 use rv_inst::Inst;
 use std::alloc::Global;
 use tam_edge::NoMemory;
@@ -11,31 +13,33 @@ use tam_edge::NoMemory;
 /// The instructions of words from address 0 on, as far as they are known.
 #[derive(Drop)]
 pub struct KeptInstructions {
-    insts: Vec<Option<Inst>>,
+    insts: Vec<KeptInst>,
 }
 
 impl KeptInstructions {
     /// Room for the instructions of so many words, none of which is known.
     pub fn unknown(alloc: Global, count: usize) -> Result<KeptInstructions, NoMemory>
-        ensures value { IfOk result (λ kept. kept.insts.items ≡ replicate count None) }
+        ensures value { IfOk result (λ kept. kept.insts.items ≡ replicate count unknown) }
     {
         let mut insts = Vec::with_capacity(alloc, count)?;
         for _ in 0..count {
-            insts.push(None)?;
+            insts.push(KeptInst::unknown())?;
         }
         Ok(KeptInstructions { insts })
     }
 
-    /// The instruction at an address, if it is known.
-    pub fn at(&self, address: u32) -> Option<Inst>
+    /// The entry of the word at an address, if it has a place.
+    #[inline(always)]
+    pub fn at(&self, address: u32) -> Option<&KeptInst>
+        requires aligned { address % 4 ≡ 0 }
         ensures value { (memory : List ℕ) → AreDecoded self.now.insts.items memory
-            → IfSome result (λ inst. (address + 4 ≤ length memory) × (decoded (read_at memory address 4) ≡ inst ∷ [])) }
+            → IfSome result (λ entry. (address + 4 ≤ length memory) × ((i : Inst) → told entry.now ≡ Some i → decoded (read_at memory address 4) ≡ i ∷ [])) }
     {
         let index = (address / 4) as usize;
-        if address % 4 != 0 || index >= self.insts.len() {
+        if index >= self.insts.len() {
             return None;
         }
-        self.insts[index]
+        Some(&self.insts[index])
     }
 
     /// Keeps the instruction at an address, where there is a place for it.
@@ -45,7 +49,7 @@ impl KeptInstructions {
     {
         let index = (address / 4) as usize;
         if address % 4 == 0 && index < self.insts.len() {
-            self.insts[index] = Some(*inst);
+            self.insts[index] = KeptInst::of(inst);
         }
     }
 
@@ -56,7 +60,7 @@ impl KeptInstructions {
     {
         let index = (address / 4) as usize;
         if index < self.insts.len() {
-            self.insts[index] = None;
+            self.insts[index] = KeptInst::unknown();
         }
     }
 }

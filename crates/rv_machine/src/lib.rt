@@ -7,8 +7,12 @@
 
 mod arithmetic;
 mod execute;
+mod forms;
+mod kept_inst;
 mod kept_instructions;
+mod kept_reg;
 mod memory_access;
+mod operation;
 mod rv;
 mod rv_step;
 

@@ -1,17 +1,18 @@
 // The machine.
-ghost use Rattle.std.specs.Prelude.{◌≡◌, ◌<◌, ◌≤◌, ◌*◌, ◌++◌, replicate, IfOk, IfErr};
+ghost use Rattle.std.specs.Prelude.{◌≡◌, ◌%◌, ◌<◌, ◌≤◌, ◌*◌, ◌++◌, replicate, IfOk};
 ghost use Rattle.tam_word.specs.Words.{wrapped};
-ghost use Rattle.rv_inst.specs.Harts.{Trapped, reg, with_reg, gone_to, gone_on};
-ghost use Rattle.rv_inst.specs.Execution.{hart_step, carried_out, jump, load_from, store_to};
+ghost use Rattle.rv_inst.specs.Harts.{reg, with_reg, gone_to, gone_on};
+ghost use Rattle.rv_inst.specs.Execution.{hart_step, jump, load_from, store_to};
 ghost use Rattle.rv_inst.specs.Images.{bytes_of_words, hart_opening};
 ghost use Rattle.rv_machine.specs.Answers.{answer, counted, state_after};
 
 use crate::RvStep;
-use crate::execute::carry_out;
+use crate::execute::{carry_out, carry_out_anew};
 use crate::kept_instructions::KeptInstructions;
+use crate::kept_reg::KeptReg;
 use crate::memory_access::{load, load_size, store, store_size};
 use rv_image::Image;
-use rv_inst::{Inst, LoadName, Reg, StoreName, TrapCause, decode, word_at};
+use rv_inst::{LoadName, StoreName, TrapCause, decode, word_at};
 use std::alloc::Global;
 use std::marker::Model;
 use tam_edge::NoMemory;
@@ -39,10 +40,10 @@ impl Model for Rv {
 
     ghost view = { λ r. record { regs = r.regs; pc = r.pc; memory = r.memory.items; steps = r.steps } };
 
-    ghost use Rattle.std.specs.Prelude.{◌≡◌, slice_index};
+    ghost use Rattle.std.specs.Prelude.{◌≡◌, ◌%◌, slice_index};
     ghost use Rattle.rv_machine.specs.Keeping.{AreDecoded};
 
-    ghost invariant = { λ r. (slice_index r.regs 0 ≡ 0) × AreDecoded r.kept.insts.items r.memory.items };
+    ghost invariant = { λ r. (slice_index r.regs 0 ≡ 0) × (r.pc % 4 ≡ 0) × AreDecoded r.kept.insts.items r.memory.items };
 }
 
 impl Rv {
@@ -68,39 +69,31 @@ impl Rv {
         ensures value { result ≡ answer (hart_step self.old) }
         ensures after { self.new ≡ state_after self.old (hart_step self.old) }
     {
-        match self.fetch() {
-            Ok(inst) => carry_out(self, &inst),
-            Err(cause) => self.trap(cause),
-        }
-    }
-
-    // The instruction at pc, or why there is none.
-    fn fetch(&mut self) -> Result<Inst, TrapCause>
-        ensures ok { IfOk result (λ inst. hart_step self.old ≡ carried_out self.old inst) }
-        ensures err { IfErr result (λ cause. hart_step self.old ≡ Trapped self.old.pc cause) }
-        ensures same { self.new ≡ self.old }
-    {
         match self.kept.at(self.pc) {
-            Some(inst) => Ok(inst),
-            None => self.decode_at_pc(),
+            Some(inst) => {
+                let inst = inst.by_fields();
+                carry_out(self, &inst)
+            }
+            None => self.step_anew(),
         }
     }
 
-    // The same from the word in the memory; where it is one of the image's, the instruction is kept.
-    fn decode_at_pc(&mut self) -> Result<Inst, TrapCause>
-        ensures ok { IfOk result (λ inst. hart_step self.old ≡ carried_out self.old inst) }
-        ensures err { IfErr result (λ cause. hart_step self.old ≡ Trapped self.old.pc cause) }
-        ensures same { self.new ≡ self.old }
+    // A step at an instruction that isn't kept: it is decoded from the word in the memory, and kept where it is one of the image's.
+    #[cold]
+    #[inline(never)]
+    pub(crate) fn step_anew(&mut self) -> RvStep
+        ensures value { result ≡ answer (hart_step self.old) }
+        ensures after { self.new ≡ state_after self.old (hart_step self.old) }
     {
         let at = self.pc as usize;
         if at + 4 > self.memory.len() {
-            return Err(TrapCause::FetchAddress);
+            return self.trap(TrapCause::FetchAddress);
         }
         match decode(word_at(&self.memory, at)) {
-            None => Err(TrapCause::Unknown),
+            None => self.trap(TrapCause::Unknown),
             Some(inst) => {
                 self.kept.keep(self.pc, &inst);
-                Ok(inst)
+                carry_out_anew(self, &inst)
             }
         }
     }
@@ -126,6 +119,7 @@ impl Rv {
 
     pub fn pc(&self) -> u32
         ensures value { result ≡ self.now.pc }
+        ensures aligned { self.now.pc % 4 ≡ 0 }
     {
         self.pc
     }
@@ -146,6 +140,7 @@ impl Rv {
 
     // A step was made, and the next instruction is at `pc`.
     pub(crate) fn go_to(&mut self, pc: u32)
+        requires aligned { pc % 4 ≡ 0 }
         ensures value { self.new ≡ counted (gone_to self.old pc) }
     {
         self.pc = pc;
@@ -160,23 +155,24 @@ impl Rv {
     }
 
     // A jump, with the return address in rd.
-    pub(crate) fn jump(&mut self, rd: u32, to: u32) -> RvStep
-        requires in_range { rd < 32 }
+    #[inline]
+    pub(crate) fn jump(&mut self, rd: KeptReg, to: u32) -> RvStep
         ensures value { result ≡ answer (jump self.old rd to) }
         ensures after { self.new ≡ state_after self.old (jump self.old rd to) }
     {
         if to % 4 != 0 {
             return self.trap(TrapCause::JumpAlign);
         }
-        self.set_reg(rd, self.pc().wrapping_add(4));
+        self.set_reg(rd.number(), self.pc().wrapping_add(4));
         self.go_to(to);
         RvStep::Done
     }
 
     // A load from an address.
-    pub(crate) fn load_from(&mut self, name: LoadName, rd: &Reg, address: u32) -> RvStep
-        ensures value { result ≡ answer (load_from self.old name rd.now address) }
-        ensures after { self.new ≡ state_after self.old (load_from self.old name rd.now address) }
+    #[inline(always)]
+    pub(crate) fn load_from(&mut self, name: LoadName, rd: KeptReg, address: u32) -> RvStep
+        ensures value { result ≡ answer (load_from self.old name rd address) }
+        ensures after { self.new ≡ state_after self.old (load_from self.old name rd address) }
     {
         let size = load_size(name);
         if address % size != 0 {
@@ -186,12 +182,14 @@ impl Rv {
             return self.trap(TrapCause::LoadAddress);
         }
         let word = load(&self.memory, name, address as usize);
+        let next = self.pc.wrapping_add(4);
         self.set_reg(rd.number(), word);
-        self.go_on();
+        self.go_to(next);
         RvStep::Done
     }
 
     // A store to an address.
+    #[inline]
     pub(crate) fn store_to(&mut self, name: StoreName, address: u32, word: u32) -> RvStep
         ensures value { result ≡ answer (store_to self.old name address word) }
         ensures after { self.new ≡ state_after self.old (store_to self.old name address word) }
@@ -203,9 +201,10 @@ impl Rv {
         if address as usize + size as usize > self.memory.len() {
             return self.trap(TrapCause::StoreAddress);
         }
+        let next = self.pc.wrapping_add(4);
         store(&mut self.memory, name, address as usize, word);
         self.kept.forget(address);
-        self.go_on();
+        self.go_to(next);
         RvStep::Done
     }
 }

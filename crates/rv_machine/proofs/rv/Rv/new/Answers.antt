@@ -11,6 +11,7 @@ invariant_of-result c =
     let least : c.min.result ≡ min (length c.words.result.now) 1048576 = c.min.ensures in
     let few : c.min.result ≤ length image.words = grind (arith, least, same) in (
       refl,
+      refl,
       opening-decoded c.in_ok-kept.kept.insts.items c.min.result c.in_ok-memory.memory.items image.words rest c.in_ok-kept.ensures.value few
           c.in_ok-memory.ensures.value,
     )

@@ -5,6 +5,7 @@ pub mod Limits
 pub mod Nothing
 pub mod Passed
 pub mod Looping
+pub mod LinesKept
 pub mod Nested
 pub mod Codes
 pub mod Tabled

@@ -10,13 +10,14 @@ ghost use Rattle.tam_eval.specs.Effects.{HasEffect};
 ghost use Rattle.tam_eval.specs.Waiting.{IsCovered, KeepsCounts, is_awaited};
 
 use crate::machine::{Machine, ready_among};
+use crate::standing::Standing;
 use std::alloc::AllocError;
 use std::collections::VecDeque;
 use tam_edge::NoMemory;
 use tam_graph::Graph;
 use tam_istr::Reader;
 use tam_msgs::{Message, Pending};
-use tam_world::nodes::{is_inlet, node_at};
+use tam_world::nodes::nodes_of;
 use tam_world::{Effect, NodeAt, Program, World};
 
 // A node gets a word, and those of its takers become ready that may fire now.
@@ -55,11 +56,7 @@ fn give_word(
 fn is_awaited(graph: &Graph, world: &World, at: NodeAt) -> bool
     ensures value { result ≡ is_awaited graph.now world.now at.activation at.node }
 {
-    let code = world.code_at(at.activation);
-    match node_at(graph, code, at.node) {
-        Some(node) => is_inlet(node.kind) && world.has_entered(at.activation, node.block),
-        None => false,
-    }
+    Standing::of(graph, world, at.activation).is_awaited(at.node)
 }
 
 // A block is entered, and those of its nodes become ready that may fire now.
@@ -178,7 +175,8 @@ pub(crate) fn begin(
     ensures grows { Grows machine.old machine.new 1 }
 {
     let word = machine.world.activations() as u32;
-    machine.world.begin(code, call)?;
+    let nodes = nodes_of(program.graph(), code).len();
+    machine.world.begin_with_room(code, call, nodes)?;
     ready_all(&mut machine.ready, word, program.starters(code))?;
     let count = program.firers(code, 0).len() + program.block_inlets(code, 0).len();
     machine.left.begin(count)?;

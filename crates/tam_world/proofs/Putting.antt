@@ -1,16 +1,22 @@
 -- Elements put at places of lists.
-use Rattle.std.proofs.Common.{◌≡◌, ℕ, zero, suc, ◌<◌, ◌≤◌, List, [], ◌∷◌, ◌++◌, length, slice_set, refl, ap, arith}
+use Rattle.std.proofs.Common.{◌≡◌, ℕ, zero, suc, ◌+◌, ◌-◌, List, [], ◌∷◌, ◌++◌, length, replicate, slice_set, refl, ap, arith}
 use Rattle.tam_word.specs.Lists.{put_at}
 
--- a blank behind a list that is too short changes nothing
-pub put_at-longer : {X : Type 0} (blank : X) (n : ℕ) (x : X) (xs : List X) → length xs ≤ n → put_at blank n x (xs ++ blank ∷ []) ≡ put_at blank n x xs
-put_at-longer blank zero x [] short = refl
-put_at-longer blank (suc n) x [] short = refl
-put_at-longer blank zero x (y ∷ ys) short = absurd (omega arith)
-put_at-longer blank (suc n) x (y ∷ ys) short = ap (λ l. y ∷ l) (put_at-longer blank n x ys (omega arith))
+-- nothing behind a list
+with_nothing : {X : Type 0} (xs : List X) → xs ++ [] ≡ xs
+with_nothing [] = refl
+with_nothing (x ∷ xs) = ap (λ l. x ∷ l) (with_nothing xs)
 
--- at a place within the list the element there is set
-pub put_at-inside : {X : Type 0} (blank : X) (n : ℕ) (x : X) (xs : List X) → n < length xs → put_at blank n x xs ≡ slice_set xs n x
-put_at-inside blank n x [] inside = absurd (omega arith)
-put_at-inside blank zero x (y ∷ ys) inside = refl
-put_at-inside blank (suc n) x (y ∷ ys) inside = ap (λ l. y ∷ l) (put_at-inside blank n x ys (omega arith))
+-- with as many blanks behind a list as it takes to have the place, the element there is set
+set-padded : {X : Type 0} (blank : X) (n : ℕ) (x : X) (xs : List X) (k : ℕ) → k ≡ n + 1 - length xs
+    → slice_set (xs ++ replicate k blank) n x ≡ put_at blank n x xs
+set-padded blank n x [] zero many = absurd (omega arith)
+set-padded blank zero x [] (suc k) many = let none : k ≡ 0 = omega arith in rw none refl
+set-padded blank (suc n) x [] (suc k) many = ap (λ l. blank ∷ l) (set-padded blank n x [] k (omega arith))
+set-padded blank zero x (y ∷ ys) k many = let none : k ≡ 0 = omega arith in rw none (ap (λ l. x ∷ l) (with_nothing ys))
+set-padded blank (suc n) x (y ∷ ys) k many = ap (λ l. y ∷ l) (set-padded blank n x ys k (omega arith))
+
+-- the same for that many
+pub put_at-padded : {X : Type 0} (blank : X) (n : ℕ) (x : X) (xs : List X)
+    → slice_set (xs ++ replicate (n + 1 - length xs) blank) n x ≡ put_at blank n x xs
+put_at-padded blank n x xs = set-padded blank n x xs (n + 1 - length xs) refl

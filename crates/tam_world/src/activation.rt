@@ -1,5 +1,5 @@
 // One activation of a code.
-ghost use Rattle.std.specs.Prelude.{◌≡◌, None, Some, true, false, slice_index_or, OnOk, IfOk};
+ghost use Rattle.std.specs.Prelude.{◌≡◌, ◌+◌, ◌-◌, ◌<◌, ◌++◌, None, Some, true, false, length, replicate, slice_index_or, OnOk, IfOk};
 ghost use Rattle.tam_word.specs.Lists.{put_at};
 ghost use Rattle.tam_world.specs.Worlds.{begun, with_word, with_block};
 ghost use Rattle.tam_world.specs.Kept.{activation_of};
@@ -15,29 +15,34 @@ pub struct Activation {
     /// The caller's node that began it.
     pub(crate) call: u32,
     /// For each block whether it was entered; a shorter list says no of the rest.
-    entered: Vec<bool>,
+    pub(crate) entered: Vec<bool>,
     /// For each node the word that it has got; a shorter list says none of the rest.
-    words: Vec<Option<u32>>,
+    pub(crate) words: Vec<Option<u32>>,
 }
 
+// For the words of how many nodes an activation has room at the most when it begins.
+const MOST_AT_FIRST: usize = 64;
+
 impl Activation {
-    /// An activation that begins: its body is entered.
+    /// An activation that begins: its body is entered. It has room for the words of its code's nodes, where they are few.
     pub(crate) fn begun(
         alloc: Global,
         code: u32,
         caller: u32,
         call: u32,
+        nodes: usize,
     ) -> Result<Activation, AllocError>
         ensures value { IfOk result (λ activation. activation_of activation ≡ begun code caller call) }
     {
         let mut entered = Vec::new(alloc);
         entered.push(true)?;
+        let words = Vec::with_capacity(alloc, nodes.min(MOST_AT_FIRST))?;
         Ok(Activation {
             code,
             caller,
             call,
             entered,
-            words: Vec::new(alloc),
+            words,
         })
     }
 
@@ -62,24 +67,34 @@ impl Activation {
     pub(crate) fn put_word(&mut self, node: u32, word: u32) -> Result<(), AllocError>
         ensures ok { OnOk result (activation_of self.new ≡ with_word node word (activation_of self.old)) }
     {
-        put_at(&mut self.words, None, node as usize, Some(word))
+        put_at(&mut self.words, None, node, Some(word))
     }
 
     /// A block is entered.
     pub(crate) fn enter(&mut self, block: u32) -> Result<(), AllocError>
         ensures ok { OnOk result (activation_of self.new ≡ with_block block (activation_of self.old)) }
     {
-        put_at(&mut self.entered, false, block as usize, true)
+        put_at(&mut self.entered, false, block, true)
     }
 }
 
 // Puts an element at a place; where the list is shorter, the places before it get a blank.
-fn put_at<T: Copy>(list: &mut Vec<T>, blank: T, place: usize, element: T) -> Result<(), AllocError>
+fn put_at<T: Copy>(list: &mut Vec<T>, blank: T, place: u32, element: T) -> Result<(), AllocError>
     ensures ok { OnOk result (list.new.items ≡ put_at blank place element list.old.items) }
 {
-    while list.len() <= place {
-        list.push(blank)?;
-    }
-    list[place] = element;
+    lengthen(list, blank, place)?;
+    list[place as usize] = element;
     Ok(())
+}
+
+// Adds blanks until the list has the place.
+fn lengthen<T: Copy>(list: &mut Vec<T>, blank: T, place: u32) -> Result<(), AllocError>
+    ensures ok { OnOk result (list.new.items ≡ list.old.items ++ replicate (place + 1 - length list.old.items) blank) }
+    ensures inside { OnOk result (place < length list.new.items) }
+{
+    let wanted = place as usize + 1;
+    if wanted <= list.len() {
+        return Ok(());
+    }
+    list.resize(wanted, blank)
 }

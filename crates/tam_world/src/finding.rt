@@ -1,12 +1,12 @@
 // Nodes by what they do.
-ghost use Rattle.std.specs.Prelude.{◌≡◌, option_to_list};
-ghost use Rattle.tam_graph.specs.Graphs.{code_of, owner_of, node_in, is_enter};
+ghost use Rattle.std.specs.Prelude.{◌≡◌, slice_get, option_to_list};
+ghost use Rattle.tam_graph.specs.Graphs.{code_of, or_block, or_kind, owner_of, node_in, is_enter};
 ghost use Rattle.tam_world.specs.Worlds.{merges_of};
 ghost use Rattle.tam_world.specs.Sought.{is_sought, sought_in, key_of};
 
-use crate::nodes::{block_at, kind_at, owner_of};
+use crate::nodes::{nodes_of, owner_of};
 use crate::program::Program;
-use tam_graph::Kind;
+use tam_graph::{Kind, Node};
 
 /// What node is looked for, by what it does.
 #[derive(Clone, Copy)]
@@ -47,15 +47,24 @@ fn key_of(sought: Sought) -> u32
 pub fn find_node(program: &Program<'_>, code: u32, sought: Sought) -> Option<u32>
     ensures value { option_to_list result ≡ sought_in (code_of program.now code) sought }
 {
+    let nodes = nodes_of(program.graph(), code);
     let inlets = program.inlets(code, key_of(sought));
     for x in inlets {
-        let block = block_at(program.graph(), code, *x);
-        let kind = kind_at(program.graph(), code, *x);
-        if is_sought(sought, block, kind) {
+        if is_sought_at(sought, nodes, *x) {
             return Some(*x);
         }
     }
     None
+}
+
+// Whether one of a code's nodes is the one that is looked for.
+fn is_sought_at(sought: Sought, nodes: &[Node], x: u32) -> bool
+    ensures value { result ≡ is_sought sought (or_block (slice_get nodes.now x)) (or_kind (slice_get nodes.now x)) }
+{
+    match nodes.get(x as usize) {
+        Some(node) => is_sought(sought, node.block, node.kind),
+        None => is_sought(sought, 0, Kind::Enter { place: 0 }),
+    }
 }
 
 /// The `in` of a place in a block.

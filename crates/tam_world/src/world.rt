@@ -37,7 +37,7 @@ impl World {
     pub fn opening(alloc: Global, main: u32) -> Result<World, AllocError>
         ensures value { IfOk result (λ world. world ≡ record { activations = begun main outside 0 ∷ []; arrays = []; makers = [] }) }
     {
-        let root = Activation::begun(alloc, main, OUTSIDE, 0)?;
+        let root = Activation::begun(alloc, main, OUTSIDE, 0, 0)?;
         let mut activations = Vec::new(alloc);
         activations.push(root)?;
         Ok(World {
@@ -92,6 +92,26 @@ impl World {
         }
     }
 
+    /// For each node of an activation the word that it has got; a shorter list says none of the rest.
+    pub fn words(&self, i: u32) -> &[Option<u32>]
+        ensures value { result.now ≡ (activation_at self.now i).words }
+    {
+        match self.activations.get(i as usize) {
+            Some(activation) => &activation.words,
+            None => &[],
+        }
+    }
+
+    /// For each block of an activation whether it was entered; a shorter list says no of the rest.
+    pub fn entered(&self, i: u32) -> &[bool]
+        ensures value { result.now ≡ (activation_at self.now i).entered }
+    {
+        match self.activations.get(i as usize) {
+            Some(activation) => &activation.entered,
+            None => &[],
+        }
+    }
+
     /// The word that a node of an activation has got.
     pub fn word_at(&self, i: u32, node: u32) -> Option<u32>
         ensures value { result ≡ word_at self.now i node }
@@ -142,7 +162,21 @@ impl World {
         ensures count { length self.new.activations ≤ length self.old.activations + 1 }
         ensures arrays { self.new.arrays ≡ self.old.arrays }
     {
-        let activation = Activation::begun(self.alloc, code, call.activation, call.node)?;
+        self.begin_with_room(code, call, 0)
+    }
+
+    /// An activation of a code of so many nodes begins, whose words then take memory once.
+    pub fn begin_with_room(
+        &mut self,
+        code: u32,
+        call: NodeAt,
+        nodes: usize,
+    ) -> Result<(), AllocError>
+        ensures ok { OnOk result (self.new ≡ with_begun self.old code call.activation call.node) }
+        ensures count { length self.new.activations ≤ length self.old.activations + 1 }
+        ensures arrays { self.new.arrays ≡ self.old.arrays }
+    {
+        let activation = Activation::begun(self.alloc, code, call.activation, call.node, nodes)?;
         self.activations.push(activation)?;
         Ok(())
     }

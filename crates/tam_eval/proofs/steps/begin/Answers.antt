@@ -17,8 +17,8 @@ returns-clause-value c =
     let more : pairs_of c.ready_all.new.ready.items ≡ s.ready ++ map (λ z. (number, z)) (starters_of (code_of c.args.program.now c.args.code)) =
     rw (c.starters.ensures.value) at c.in_ok-ready_all.ensures.ok in
     on_ok c.send.result (λ (sent : c.send.new.pending.messages ≡ s.pending ++ Carry c.args.call.activation c.args.call.node number ∷ []).
-    state-begun c.args.program.now s c.args.code c.args.call.activation c.args.call.node number c.begin.new.self (pairs_of c.ready_all.new.ready.items)
-    c.send.new.pending.messages c.in_ok-begin.ensures.ok count more sent) c.send.ensures.ok
+    state-begun c.args.program.now s c.args.code c.args.call.activation c.args.call.node number c.begin_with_room.new.self (pairs_of c.ready_all.new.ready.items)
+    c.send.new.pending.messages c.in_ok-begin_with_room.ensures.ok count more sent) c.send.ensures.ok
 
 pub returns-clause-counts : goal.returns-clause-counts
 returns-clause-counts c =
@@ -32,9 +32,9 @@ returns-clause-counts c =
     (inlets_in (code_of g c.args.code) 0) =
     ap₂ (λ m n. m + n) (ap length (c.firers.ensures.value)) (ap length c.block_inlets.ensures.value) in
     on_ok c.send.result (λ (sent : c.send.new.pending.messages ≡ s.pending ++ Carry c.args.call.activation c.args.call.node number ∷ []).
-    rw c.in_ok-begin-2.ensures.ok (keeps-begun g s
-    (record s { world = c.begin.new.self; ready = pairs_of c.ready_all.new.ready.items; pending = c.send.new.pending.messages })
+    rw c.in_ok-begin.ensures.ok (keeps-begun g s
+    (record s { world = c.begin_with_room.new.self; ready = pairs_of c.ready_all.new.ready.items; pending = c.send.new.pending.messages })
     c.args.code c.args.call.activation c.args.call.node (Carry c.args.call.activation c.args.call.node (length s.world.activations) ∷ [])
-    (state-begun g s c.args.code c.args.call.activation c.args.call.node number c.begin.new.self (pairs_of c.ready_all.new.ready.items)
-    c.send.new.pending.messages c.in_ok-begin.ensures.ok count more sent)
+    (state-begun g s c.args.code c.args.call.activation c.args.call.node number c.begin_with_room.new.self (pairs_of c.ready_all.new.ready.items)
+    c.send.new.pending.messages c.in_ok-begin_with_room.ensures.ok count more sent)
     c.args.machine.now.left c.requires.covered.one_each (length c.firers.result.now + length c.block_inlets.result.now) vertices)) c.send.ensures.ok

@@ -6,15 +6,13 @@ use Rattle.tam_world.specs.Sought.{is_sought, key_of, inlets_of}
 use Rattle.tam_world.proofs.FirstOf.{first-here, first-keyed}
 use Rattle.tam_world.proofs.finding.find_node.Goals as goal
 
-pub returns-then-is_sought : goal.returns-then-is_sought
-returns-then-is_sought c =
+pub returns-then-is_sought_at : goal.returns-then-is_sought_at
+returns-then-is_sought_at c =
     let code = code_of c.args.program.now c.args.code in
     let test = λ (x : ℕ). is_sought c.args.sought (block_at code x) (kind_at code x) in
     let inlets = c.inlets-inlets.result.now in
     let x = get_or inlets c.loop-x.x-index 0 in
-    let block_is : c.block_at-block.result ≡ block_at code x = rw c.graph.ensures.value at c.block_at-block.ensures.value in
-    let kind_is : c.kind_at-kind.result ≡ kind_at code x = rw c.graph-in-loop-x.ensures.value at c.kind_at-kind.ensures.value in
-    let passes : test x ≡ true = sym (rw (block_is, kind_is) at c.is_sought.ensures.value) ∙ c.if-is_sought.true in
+    let passes : test x ≡ true = sym (rw (c.nodes_of-nodes.ensures.value, c.graph.ensures.value) at c.is_sought_at.ensures.value) ∙ c.if-is_sought_at.true in
     let all : inlets ≡ inlets_of code (key_of c.args.sought) = c.inlets-inlets.ensures.value ∙ ap (inlets_of code) c.key_of.ensures.value in
     record {
       value = sym (first-here test inlets c.loop-x.x-index 0 c.loop-x-test.true passes) ∙ c.loop-x.invariant ∙ ap (first_of test) all

@@ -50,6 +50,10 @@ impl Pending {
         ensures rest { self.new.messages ≡ without_place place self.old.messages }
         ensures spare { self.new.spare ≡ self.old.spare + 1 }
     {
+        // The oldest is taken most often, and at the least cost.
+        if place == 0 {
+            return self.queue.pop_front().unwrap();
+        }
         self.queue.remove(place as usize).unwrap()
     }
 

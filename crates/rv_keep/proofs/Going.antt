@@ -12,7 +12,8 @@ use Rattle.tam_msgs.specs.Runs.{Wild_skip}
 use Rattle.tam_word.specs.Words.{meaning}
 use Rattle.tam_word.proofs.Tests.{self-eq}
 use Rattle.tam_istr.specs.Cells.{Arrays}
-use Rattle.frame_tables.specs.FrameTables.{Frame, FrameTable, or_frame, frame_at, is_live, is_current, spent, next_thread, with_slot, lowered, given_back, rested}
+use Rattle.frame_tables.specs.FrameTables.{Frame, FrameTable, or_frame, frame_at, is_live, is_current, spent, next_thread}
+use Rattle.frame_tables.specs.FrameTables.{with_slot, lowered, given_back, rested}
 use Rattle.tl0_code.specs.declared.instr.Instr.TheVariants.{Imm, Mov, Op as Operate, Fork, Switch, Falloc, Send, Ret, Ialloc, Ifetch, Istore, Skip}
 use Rattle.tl0_code.specs.declared.bad_cause.BadCause.TheVariants as bad
 use Rattle.tl0_code.specs.ThreadCode.{Thread, CodeText, Program, code_text, or_thread, thread_at}

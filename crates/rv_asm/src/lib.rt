@@ -19,8 +19,6 @@ mod printer;
 mod ranges;
 mod second_pass;
 mod statement;
-#[cfg(test)]
-mod tests;
 mod tokens;
 mod verb;
 

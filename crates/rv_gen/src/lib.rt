@@ -11,8 +11,6 @@ mod insts;
 mod kernel;
 mod lengths;
 mod records;
-#[cfg(test)]
-mod tests;
 mod threads;
 
 pub use generator::generate;

@@ -21,8 +21,6 @@ mod seen;
 mod sizes;
 mod sources;
 mod table;
-#[cfg(test)]
-mod tests;
 
 pub use checker::{CheckError, check};
 pub use tam_graph::{Accepted, CheckCause};

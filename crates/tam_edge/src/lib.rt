@@ -13,8 +13,6 @@ mod mem_files;
 mod mem_sink;
 mod no_memory;
 mod sink;
-#[cfg(test)]
-mod tests;
 mod whole;
 
 pub use files::{FileError, Files};

@@ -1,4 +1,3 @@
 pub mod CodeSizes
 pub mod Appending
 pub mod Inside
-pub mod TestGraphs

@@ -9,8 +9,6 @@ mod block_sets;
 mod blocks;
 mod counting;
 mod size;
-#[cfg(test)]
-mod tests;
 mod text;
 mod told;
 mod vertices;

@@ -9,7 +9,5 @@ pub mod laws;
 mod line;
 mod node;
 mod printing;
-#[cfg(test)]
-mod tests;
 
 pub use printing::print;

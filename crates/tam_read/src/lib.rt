@@ -26,8 +26,6 @@ mod refusal;
 mod refused;
 mod said;
 mod table;
-#[cfg(test)]
-mod tests;
 
 pub use cause::{Limit, ReadCause};
 pub use placed::Lines;

@@ -30,8 +30,6 @@ mod job;
 mod mode;
 mod reading;
 mod shapes;
-#[cfg(test)]
-mod tests;
 mod usage_cause;
 mod values;
 mod words_error;

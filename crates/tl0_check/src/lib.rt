@@ -7,8 +7,6 @@
 mod checked;
 mod checker;
 mod instrs;
-#[cfg(test)]
-mod tests;
 
 pub use checked::Checked0;
 pub use checker::{Check0Error, check0};

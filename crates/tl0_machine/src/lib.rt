@@ -12,8 +12,6 @@ mod delivering;
 mod machine0;
 mod opening;
 mod stop0;
-#[cfg(test)]
-mod tests;
 mod thread_state;
 mod threads;
 

@@ -12,8 +12,6 @@ mod next;
 mod pass;
 mod printer;
 mod reader;
-#[cfg(test)]
-mod tests;
 mod tokens;
 mod verb;
 

@@ -1,0 +1,7 @@
+//! Tests of tam_read: texts with what is read of them, and the first faults of others.
+//!
+//! They lie apart from it, so that it isn't proved a second time with them (docs/ARCHITECTURE.md, "The crates").
+#![tactic(auto)]
+
+#[cfg(test)]
+mod tests;

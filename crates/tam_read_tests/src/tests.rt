@@ -1,16 +1,18 @@
 // The first fault of texts that were worked by hand.
-use std::test::*;
+use std::alloc::Global;
+use std::process::Abort;
+use std::test::Fail;
 use tam_graph::{Kind, Place};
 use tam_read::{Refused, read};
 
-fn shown(rt: &HostRuntime, text: &[u8]) -> Result<String, Fail> {
+fn shown(alloc: Global, text: &[u8]) -> Result<String, Fail> {
     if text.len() > 1_048_576 {
-        return Ok(format!(in rt.alloc(); "too long")?);
+        return Ok(format!(in alloc; "too long")?);
     }
-    Ok(match read(rt.alloc(), text) {
-        Err(Refused::At { line, cause }) => format!(in rt.alloc(); "{} {:?}", line, cause)?,
-        Err(Refused::NoMemory) => format!(in rt.alloc(); "no memory")?,
-        Ok(_) => format!(in rt.alloc(); "none")?,
+    Ok(match read(alloc, text) {
+        Err(Refused::At { line, cause }) => format!(in alloc; "{} {:?}", line, cause)?,
+        Err(Refused::NoMemory) => format!(in alloc; "no memory")?,
+        Ok(_) => format!(in alloc; "none")?,
     })
 }
 
@@ -67,14 +69,18 @@ none|n = const 0/A:3 = alloc n/end/
 none|p = const 1/c = cond p/result 0 p/else/end/end/";
 
 // Texts that begin with the head, with what is shown of them.
-fn rows_show(rt: &HostRuntime, head: &str, rows: &str) -> Result<(), Fail> {
+fn rows_show(rt: &impl Abort, alloc: Global, head: &str, rows: &str) -> Result<(), Fail> {
     for row in rows.lines() {
         let (wanted, lines) = row.split_once('|').ok_or("a row")?;
-        let mut text = String::from_str(rt.alloc(), head)?;
+        let mut text = String::from_str(alloc, head)?;
         for letter in lines.chars() {
             text.push(if letter == '/' { '\n' } else { letter })?;
         }
-        assert_eq!(rt; shown(rt, text.as_bytes())?.as_str(), wanted, "of {lines}");
+        assert_eq!(rt;
+            shown(alloc, text.as_bytes())?.as_str(),
+            wanted,
+            "of {lines}"
+        );
     }
     Ok(())
 }
@@ -82,24 +88,24 @@ fn rows_show(rt: &HostRuntime, head: &str, rows: &str) -> Result<(), Fail> {
 // Whole texts: the faults of the head, of bytes, of places in the file.
 #[test]
 fn texts(rt: HostRuntime) -> Result<(), Fail> {
-    rows_show(&rt, "", TEXTS)?;
-    assert_eq!(rt; shown(&rt, b"dg 1\n# \xc8\n")?.as_str(), "2 BadByte");
-    assert_eq!(rt; shown(&rt, b"dg 1\r")?.as_str(), "1 BadByte");
+    rows_show(&rt, rt.alloc(), "", TEXTS)?;
+    assert_eq!(rt; shown(rt.alloc(), b"dg 1\n# \xc8\n")?.as_str(), "2 BadByte");
+    assert_eq!(rt; shown(rt.alloc(), b"dg 1\r")?.as_str(), "1 BadByte");
     Ok(())
 }
 
 #[test]
 fn lines_of_main(rt: HostRuntime) -> Result<(), Fail> {
-    rows_show(&rt, "dg 1\ncode main\n", LINES)
+    rows_show(&rt, rt.alloc(), "dg 1\ncode main\n", LINES)
 }
 
 // Lines of `main`, each as often as it says.
-fn repeated(rt: &HostRuntime, lines: &[(&str, usize)]) -> Result<String, Fail> {
-    let mut text = format!(in rt.alloc(); "dg 1\ncode main\n")?;
+fn repeated(alloc: Global, lines: &[(&str, usize)]) -> Result<String, Fail> {
+    let mut text = String::from_str(alloc, "dg 1\ncode main\n")?;
     for (line, count) in lines {
-        for k in 0..*count {
-            text.push_str(&format!(in rt.alloc(); "{}", line)?)?;
-            text.push_str("\n")?;
+        for _ in 0..*count {
+            text.push_str(line)?;
+            text.push('\n')?;
         }
     }
     Ok(text)
@@ -115,14 +121,14 @@ fn vertices_of_a_block(rt: HostRuntime) -> Result<(), Fail> {
     ];
     for (outs, calls, wanted) in &rows {
         let text = repeated(
-            &rt,
+            rt.alloc(),
             &[
                 ("out 0 x", *outs),
                 ("f = call g", *calls),
                 ("x = param 64", 1),
             ],
         )?;
-        assert_eq!(rt; shown(&rt, text.as_bytes())?.as_str(), *wanted);
+        assert_eq!(rt; shown(rt.alloc(), text.as_bytes())?.as_str(), *wanted);
     }
     Ok(())
 }

@@ -13,7 +13,7 @@ ghost use Rattle.std.specs.Prelude.{◌≤◌, length};
 
 use blocks::{MOST_VERTICES, classes_of_blocks};
 use rv_asm::assemble;
-use rv_machine::{Rv, RvStep};
+use rv_machine::Rv;
 use std::alloc::{AllocError, Global};
 use std::env;
 use std::process::ExitCode;
@@ -129,11 +129,7 @@ fn run_machine(alloc: Global, text: &[u8], steps: u32) -> Option<u32>
 {
     let image = assemble(alloc, text).ok()?;
     let mut rv = Rv::new(alloc, &image, 1).ok()?;
-    for _ in 0..steps {
-        if rv.step() != RvStep::Done {
-            break;
-        }
-    }
+    rv.run(steps);
     Some(rv.reg(5))
 }
 

@@ -1,10 +1,10 @@
 pub mod Times
 pub mod Numbering
 pub mod Ways
-pub mod Counting
 pub mod Arguments
 pub mod Printing
 pub mod Onward
+pub mod Running
 pub mod Choosing
 pub mod Polls
 pub mod Words

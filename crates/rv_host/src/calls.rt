@@ -2,7 +2,7 @@
 ghost use Rattle.std.specs.Prelude.{ℕ, ◌≡◌, ◌+◌, ◌<◌, ◌≤◌, ◌^◌, length, option_to_list};
 ghost use Rattle.rv_keep.specs.Hosts.{sent_by};
 ghost use Rattle.rv_host.specs.HostStates.{beside_of};
-ghost use Rattle.rv_host.specs.HostEvents.{Serves, StepsOnce, Reaches};
+ghost use Rattle.rv_host.specs.HostEvents.{Serves, Reaches};
 
 use crate::host_state::{HostState, send};
 use crate::{HostWild, StopRv};
@@ -28,30 +28,22 @@ pub(crate) fn run_to_poll(state: &mut HostState, rv: &mut Rv, most: u32) -> Resu
 {
     let mut left = most;
     while left > 0 {
-        if polls(state, rv)? {
-            return Ok(());
+        let run = rv.run(left);
+        match run.last {
+            RvStep::Done => left = 0,
+            RvStep::Ecall => {
+                left -= run.done + 1;
+                if serve(state, rv)? {
+                    return Ok(());
+                }
+            }
+            RvStep::Trap { pc, cause } => return Err(StopRv::Trap { pc, cause }),
         }
-        left -= 1;
     }
     Err(StopRv::Trap {
         pc: rv.pc(),
         cause: TrapCause::NoPoll,
     })
-}
-
-// One step, with the call that it makes, and whether that is a poll.
-fn polls(state: &mut HostState, rv: &mut Rv) -> Result<bool, StopRv>
-    requires few { rv.old.steps + 1 < 2 ^ 64 }
-    ensures value { StepsOnce state.old state.new rv.old rv.new result }
-    ensures beside { beside_of state.new ≡ beside_of state.old }
-    ensures pending { length state.old.pending.messages ≤ length state.new.pending.messages }
-    ensures steps { rv.new.steps ≤ rv.old.steps + 1 }
-{
-    match rv.step() {
-        RvStep::Done => Ok(false),
-        RvStep::Ecall => serve(state, rv),
-        RvStep::Trap { pc, cause } => Err(StopRv::Trap { pc, cause }),
-    }
 }
 
 // Serves the call that was made, and tells whether it is a poll.

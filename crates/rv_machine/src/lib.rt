@@ -12,10 +12,14 @@ mod kept_inst;
 mod kept_instructions;
 mod kept_reg;
 mod memory_access;
+mod next;
 mod operation;
 mod rv;
+mod rv_run;
 mod rv_step;
+mod word_address;
 
 pub use rv::Rv;
 pub use rv_inst::TrapCause;
+pub use rv_run::RvRun;
 pub use rv_step::RvStep;

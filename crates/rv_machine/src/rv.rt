@@ -1,16 +1,19 @@
 // The machine.
-ghost use Rattle.std.specs.Prelude.{◌≡◌, ◌%◌, ◌<◌, ◌≤◌, ◌*◌, ◌++◌, replicate, IfOk};
+ghost use Rattle.std.specs.Prelude.{ℕ, ◌≡◌, ◌%◌, ◌<◌, ◌≤◌, ◌*◌, ◌^◌, ◌++◌, replicate, IfOk};
 ghost use Rattle.tam_word.specs.Words.{wrapped};
-ghost use Rattle.rv_inst.specs.Harts.{reg, with_reg, gone_to, gone_on};
+ghost use Rattle.rv_inst.specs.Harts.{reg, with_reg};
 ghost use Rattle.rv_inst.specs.Execution.{hart_step, jump, load_from, store_to};
 ghost use Rattle.rv_inst.specs.Images.{bytes_of_words, hart_opening};
-ghost use Rattle.rv_machine.specs.Answers.{answer, counted, state_after};
+ghost use Rattle.rv_machine.specs.Answers.{answer, state_after};
+ghost use Rattle.rv_machine.specs.Runs.{IsRun, at, step_to, Stays};
 
-use crate::RvStep;
 use crate::execute::{carry_out, carry_out_anew};
 use crate::kept_instructions::KeptInstructions;
 use crate::kept_reg::KeptReg;
 use crate::memory_access::{load, load_size, store, store_size};
+use crate::next::Next;
+use crate::word_address::WordAddress;
+use crate::{RvRun, RvStep};
 use rv_image::Image;
 use rv_inst::{LoadName, StoreName, TrapCause, decode, word_at};
 use std::alloc::Global;
@@ -27,7 +30,7 @@ const MOST_KEPT: usize = 1 << 20;
 #[derive(Drop)]
 pub struct Rv {
     regs: [u32; 32],
-    pc: u32,
+    pc: WordAddress,
     memory: Vec<u8>,
     steps: u64,
     kept: KeptInstructions,
@@ -40,10 +43,10 @@ impl Model for Rv {
 
     ghost view = { λ r. record { regs = r.regs; pc = r.pc; memory = r.memory.items; steps = r.steps } };
 
-    ghost use Rattle.std.specs.Prelude.{◌≡◌, ◌%◌, slice_index};
+    ghost use Rattle.std.specs.Prelude.{◌≡◌, slice_index};
     ghost use Rattle.rv_machine.specs.Keeping.{AreDecoded};
 
-    ghost invariant = { λ r. (slice_index r.regs 0 ≡ 0) × (r.pc % 4 ≡ 0) × AreDecoded r.kept.insts.items r.memory.items };
+    ghost invariant = { λ r. (slice_index r.regs 0 ≡ 0) × AreDecoded r.kept.insts.items r.memory.items };
 }
 
 impl Rv {
@@ -57,7 +60,7 @@ impl Rv {
         let kept = KeptInstructions::unknown(alloc, image.words().len().min(MOST_KEPT))?;
         Ok(Rv {
             regs: [0; 32],
-            pc: 0,
+            pc: WordAddress::ZERO,
             memory,
             steps: 0,
             kept,
@@ -69,33 +72,88 @@ impl Rv {
         ensures value { result ≡ answer (hart_step self.old) }
         ensures after { self.new ≡ state_after self.old (hart_step self.old) }
     {
-        match self.kept.at(self.pc) {
-            Some(inst) => {
-                let inst = inst.by_fields();
-                carry_out(self, &inst)
+        self.run(1).last
+    }
+
+    /// Makes so many steps, or fewer where one calls the host or traps: that one is the last, and it isn't among those that are counted as done.
+    pub fn run(&mut self, most: u32) -> RvRun
+        ensures value { IsRun most self.old self.new result.done result.last }
+        ensures in_range { self.old.steps < 2 ^ 64 }
+    {
+        let steps = self.steps;
+        let mut pc = self.pc;
+        let mut done = 0;
+        while done < most {
+            match self.next(pc) {
+                Next::On(to) => {
+                    pc = to;
+                    done += 1;
+                }
+                Next::Call => {
+                    self.stand(pc.next(), steps.saturating_add(u64::from(done) + 1));
+                    return RvRun {
+                        done,
+                        last: RvStep::Ecall,
+                    };
+                }
+                Next::Trap(cause) => {
+                    self.stand(pc, steps.saturating_add(u64::from(done)));
+                    let pc = pc.number();
+                    return RvRun {
+                        done,
+                        last: RvStep::Trap { pc, cause },
+                    };
+                }
             }
-            None => self.step_anew(),
+        }
+        self.stand(pc, steps.saturating_add(u64::from(done)));
+        RvRun {
+            done,
+            last: RvStep::Done,
         }
     }
 
-    // A step at an instruction that isn't kept: it is decoded from the word in the memory, and kept where it is one of the image's.
+    // Carries out the instruction at pc, which is kept beside the machine; so is the number of steps.
+    #[inline(always)]
+    fn next(&mut self, pc: WordAddress) -> Next
+        ensures value { (n : ℕ) → hart_step (at self.old pc n) ≡ step_to self.new pc result n }
+        ensures kept { Stays self.old self.new result }
+    {
+        match self.kept.at(pc.number()) {
+            Some(inst) => {
+                let inst = inst.by_fields();
+                carry_out(self, pc, &inst)
+            }
+            None => self.next_anew(pc),
+        }
+    }
+
+    // The same where the instruction isn't kept: it is decoded from the word in the memory, and kept where it is one of the image's.
     #[cold]
     #[inline(never)]
-    pub(crate) fn step_anew(&mut self) -> RvStep
-        ensures value { result ≡ answer (hart_step self.old) }
-        ensures after { self.new ≡ state_after self.old (hart_step self.old) }
+    pub(crate) fn next_anew(&mut self, pc: WordAddress) -> Next
+        ensures value { (n : ℕ) → hart_step (at self.old pc n) ≡ step_to self.new pc result n }
+        ensures kept { Stays self.old self.new result }
     {
-        let at = self.pc as usize;
+        let at = pc.number() as usize;
         if at + 4 > self.memory.len() {
-            return self.trap(TrapCause::FetchAddress);
+            return Next::Trap(TrapCause::FetchAddress);
         }
         match decode(word_at(&self.memory, at)) {
-            None => self.trap(TrapCause::Unknown),
+            None => Next::Trap(TrapCause::Unknown),
             Some(inst) => {
-                self.kept.keep(self.pc, &inst);
-                carry_out_anew(self, &inst)
+                self.kept.keep(pc.number(), &inst);
+                carry_out_anew(self, pc, &inst)
             }
         }
+    }
+
+    // The machine stands at pc, after so many steps.
+    fn stand(&mut self, pc: WordAddress, steps: u64)
+        ensures value { self.new ≡ at self.old pc steps }
+    {
+        self.pc = pc;
+        self.steps = steps;
     }
 
     /// The word of a register.
@@ -121,7 +179,7 @@ impl Rv {
         ensures value { result ≡ self.now.pc }
         ensures aligned { self.now.pc % 4 ≡ 0 }
     {
-        self.pc
+        self.pc.number()
     }
 
     /// The number of steps that did not trap.
@@ -131,81 +189,65 @@ impl Rv {
         self.steps
     }
 
-    // A trap at pc.
-    pub(crate) fn trap(&self, cause: TrapCause) -> RvStep
-        ensures value { result ≡ RvStep.Trap self.now.pc cause }
-    {
-        RvStep::Trap { pc: self.pc, cause }
-    }
-
-    // A step was made, and the next instruction is at `pc`.
-    pub(crate) fn go_to(&mut self, pc: u32)
-        requires aligned { pc % 4 ≡ 0 }
-        ensures value { self.new ≡ counted (gone_to self.old pc) }
-    {
-        self.pc = pc;
-        self.steps = self.steps.saturating_add(1);
-    }
-
-    // Or behind this one.
-    pub(crate) fn go_on(&mut self)
-        ensures value { self.new ≡ counted (gone_on self.old) }
-    {
-        self.go_to(self.pc().wrapping_add(4));
-    }
-
-    // A jump, with the return address in rd.
-    #[inline]
-    pub(crate) fn jump(&mut self, rd: KeptReg, to: u32) -> RvStep
-        ensures value { result ≡ answer (jump self.old rd to) }
-        ensures after { self.new ≡ state_after self.old (jump self.old rd to) }
+    // A jump from pc, with the return address in rd.
+    #[inline(always)]
+    pub(crate) fn jump(&mut self, pc: WordAddress, rd: KeptReg, to: u32) -> Next
+        ensures value { (n : ℕ) → jump (at self.old pc n) rd to ≡ step_to self.new pc result n }
+        ensures kept { Stays self.old self.new result }
     {
         if to % 4 != 0 {
-            return self.trap(TrapCause::JumpAlign);
+            return Next::Trap(TrapCause::JumpAlign);
         }
-        self.set_reg(rd.number(), self.pc().wrapping_add(4));
-        self.go_to(to);
-        RvStep::Done
+        self.set_reg(rd.number(), pc.next().number());
+        Next::On(WordAddress::of(to))
     }
 
     // A load from an address.
     #[inline(always)]
-    pub(crate) fn load_from(&mut self, name: LoadName, rd: KeptReg, address: u32) -> RvStep
-        ensures value { result ≡ answer (load_from self.old name rd address) }
-        ensures after { self.new ≡ state_after self.old (load_from self.old name rd address) }
+    pub(crate) fn load_from(
+        &mut self,
+        pc: WordAddress,
+        name: LoadName,
+        rd: KeptReg,
+        address: u32,
+    ) -> Next
+        ensures value { (n : ℕ) → load_from (at self.old pc n) name rd address ≡ step_to self.new pc result n }
+        ensures kept { Stays self.old self.new result }
     {
         let size = load_size(name);
         if address % size != 0 {
-            return self.trap(TrapCause::LoadAlign);
+            return Next::Trap(TrapCause::LoadAlign);
         }
         if address as usize + size as usize > self.memory.len() {
-            return self.trap(TrapCause::LoadAddress);
+            return Next::Trap(TrapCause::LoadAddress);
         }
         let word = load(&self.memory, name, address as usize);
-        let next = self.pc.wrapping_add(4);
         self.set_reg(rd.number(), word);
-        self.go_to(next);
-        RvStep::Done
+        Next::On(pc.next())
     }
 
     // A store to an address.
-    #[inline]
-    pub(crate) fn store_to(&mut self, name: StoreName, address: u32, word: u32) -> RvStep
-        ensures value { result ≡ answer (store_to self.old name address word) }
-        ensures after { self.new ≡ state_after self.old (store_to self.old name address word) }
+    #[inline(always)]
+    pub(crate) fn store_to(
+        &mut self,
+        pc: WordAddress,
+        name: StoreName,
+        address: u32,
+        word: u32,
+    ) -> Next
+        ensures value { (n : ℕ) → store_to (at self.old pc n) name address word ≡ step_to self.new pc result n }
+        ensures kept { Stays self.old self.new result }
     {
         let size = store_size(name);
         if address % size != 0 {
-            return self.trap(TrapCause::StoreAlign);
+            return Next::Trap(TrapCause::StoreAlign);
         }
         if address as usize + size as usize > self.memory.len() {
-            return self.trap(TrapCause::StoreAddress);
+            return Next::Trap(TrapCause::StoreAddress);
         }
-        let next = self.pc.wrapping_add(4);
         store(&mut self.memory, name, address as usize, word);
         self.kept.forget(address);
-        self.go_to(next);
-        RvStep::Done
+        Next::On(pc.next())
     }
 }
 

@@ -1,9 +1,9 @@
 // Frames taken, run, given back and taken again, step by step. The answers are worked by hand from docs/THREADS.md, "Frames".
 ghost use Rattle.std.specs.Prelude.{◌≡◌};
 
-use crate::{Frames, Full, Spend};
 use std::alloc::{AllocError, Global};
 use std::test::Fail;
+use tam_frames::{Frames, Full, Spend};
 
 /// A call, where its conditions are met.
 #[derive(Clone, Copy, Debug)]

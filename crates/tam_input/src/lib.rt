@@ -7,8 +7,6 @@
 mod ending;
 mod input;
 mod refusal;
-#[cfg(test)]
-mod tests;
 
 pub use ending::Ending;
 pub use input::{Input, read_input};

@@ -7,8 +7,6 @@
 pub mod laws;
 mod making;
 mod shape;
-#[cfg(test)]
-mod tests;
 
 pub use making::make;
 pub use shape::Shape;

@@ -1,8 +1,8 @@
 // What is read, over files in memory, by the rules of docs/FORMATS.md, "Command line".
-use crate::{Refusal, read_input};
 use std::process::Abort;
 use std::test::Fail;
 use tam_edge::MemFiles;
+use tam_input::{Refusal, read_input};
 use tam_words::UsageCause;
 
 // Words, the texts of the files `f` and `o`, the numbers of the reads that fail; the bytes that are read of the file, or what is told.

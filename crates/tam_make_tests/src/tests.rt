@@ -1,6 +1,6 @@
 // The large inputs, against texts that a program of another language wrote after docs/FORMATS.md, "Large inputs".
-use crate::{Shape, make};
 use std::test::Fail;
+use tam_make::{Shape, make};
 
 // A number in which each byte of a text and its place count.
 fn digest(text: &[u8]) -> u32 {

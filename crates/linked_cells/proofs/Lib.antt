@@ -3,3 +3,4 @@ mod Blocks
 mod Sharing
 mod CellLemmas
 pub mod ListLemmas
+pub mod LineLemmas

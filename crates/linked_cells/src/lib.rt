@@ -15,11 +15,13 @@
 #![tactic(auto)]
 
 mod cell_table;
+mod line;
 mod memory;
 #[cfg(test)]
 mod tests;
 
 pub use cell_table::CellTable;
+pub use line::Line;
 // A crate can name a table in a contract only if the types of its fields are exported.
 #[doc(hidden)]
 pub use cell_table::Cell;

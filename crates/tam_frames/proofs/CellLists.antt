@@ -126,40 +126,45 @@ module _ {cells : List LinkedCell} {at i : ℕ} (both : BothThere cells at i) wh
   pub other-linked : (j : ℕ) → j ≢ at → j ≢ i → cell_at (linked cells at i) j ≡ cell_at cells j
   other-linked j other_at other = other-link half at at_half i j other_at ∙ other-link cells i both.there (cell_at cells at).link j other
 
--- only cells from a on change, w at most
+-- only cells from a on change, w at most, and the second of them doesn't
 pub record ChangesFrame (old new : List LinkedCell) (a w : ℕ) : Type 0 where
   pub length_same : length new ≡ length old
   pub before : (j : ℕ) → j < a → cell_at new j ≡ cell_at old j
   pub after : (j : ℕ) → a + w ≤ j → cell_at new j ≡ cell_at old j
+  pub header : cell_at new (a + 1) ≡ cell_at old (a + 1)
 
--- cell i is one of those
+-- cell i is one of those that may change
 pub record IsOneOf (a w i : ℕ) : Type 0 where
   pub from_a : a ≤ i
   pub below : i < a + w
+  pub beside : i ≢ a + 1
 
 -- one of them is written
 pub changes-written : {old new : List LinkedCell} {a w i first second : ℕ} → IsOneOf a w i → IsWritten old new i first second → ChangesFrame old new a w
-changes-written one written = record {
+changes-written {a = a} one written = record {
   length_same = written.length_same;
   before = λ j lt. written.others j (omega arith);
   after = λ j le. written.others j (omega arith);
+  header = written.others (a + 1) (λ same. one.beside (sym same));
 }
 
 -- the link of one of them is set
 pub changes-link : (cells : List LinkedCell) {a w i : ℕ} → IsOneOf a w i → i < length cells → (l : ℕ) → ChangesFrame cells (with_link cells i l) a w
-changes-link cells {i = i} one there l = record {
+changes-link cells {a = a} {i = i} one there l = record {
   length_same = (keeps-link cells i there l).length_same;
   before = λ j lt. other-link cells i there l j (omega arith);
   after = λ j le. other-link cells i there l j (omega arith);
+  header = other-link cells i there l (a + 1) (λ same. one.beside (sym same));
 }
 
 -- one of them is put behind another of them
 pub changes-linked : {cells : List LinkedCell} {a w at i : ℕ} → IsOneOf a w at → IsOneOf a w i → BothThere cells at i
     → ChangesFrame cells (linked cells at i) a w
-changes-linked one other both = record {
+changes-linked {a = a} one other both = record {
   length_same = (keeps-linked both).length_same;
   before = λ j lt. other-linked both j (omega arith) (omega arith);
   after = λ j le. other-linked both j (omega arith) (omega arith);
+  header = other-linked both (a + 1) (λ same. one.beside (sym same)) (λ same. other.beside (sym same));
 }
 
 -- one change behind another
@@ -168,4 +173,5 @@ changes-both one two = record {
   length_same = two.length_same ∙ one.length_same;
   before = λ j lt. two.before j lt ∙ one.before j lt;
   after = λ j le. two.after j le ∙ one.after j le;
+  header = two.header ∙ one.header;
 }

@@ -65,7 +65,7 @@ module _ {cells : List LinkedCell} {slots threads a : ℕ} {h : Frame} (holds : 
         }
 
     pub changes-slot : ChangesFrame cells (with_words cells (slot_cell threads a s) w u) a (frame_width slots threads)
-    changes-slot = changes-written (record { from_a = omega arith; below = omega (arith, there) }) slot_written
+    changes-slot = changes-written (record { from_a = omega arith; below = omega (arith, there); beside = omega arith }) slot_written
 
   module _ (o u : ℕ) where
     header_written : IsWritten cells (with_words cells a o u) a o u
@@ -87,7 +87,7 @@ module _ {cells : List LinkedCell} {slots threads a : ℕ} {h : Frame} (holds : 
     }
 
     pub changes-owed : ChangesFrame cells (with_words cells a o u) a (frame_width slots threads)
-    changes-owed = changes-written (record { from_a = omega arith; below = omega arith }) header_written
+    changes-owed = changes-written (record { from_a = omega arith; below = omega arith; beside = omega arith }) header_written
 
   module _ {t m : ℕ} (less : Lessens h threads t m) where
     thread_written : IsWritten cells (with_words cells (thread_cell a t) (m - 1) t) (thread_cell a t) (m - 1) t
@@ -135,4 +135,4 @@ module _ {cells : List LinkedCell} {slots threads a : ℕ} {h : Frame} (holds : 
             other same = let count : slice_index h.counts r ≡ m = ap (slice_index h.counts) same ∙ less.is in omega (arith, count, ready.1, less.more)
 
     pub changes-count : ChangesFrame cells (with_words cells (thread_cell a t) (m - 1) t) a (frame_width slots threads)
-    changes-count = changes-written (record { from_a = omega arith; below = omega (arith, less.there) }) thread_written
+    changes-count = changes-written (record { from_a = omega arith; below = omega (arith, less.there); beside = omega arith }) thread_written

@@ -25,6 +25,11 @@ pub has-any-is : (ts : List ℕ) → not (nat_eq (length ts) 0) ≡ has_any ts
 has-any-is [] = refl
 has-any-is (t ∷ ts) = ap not (eqb-suc-zero (length ts))
 
+-- whether none is
+pub none-is : (ts : List ℕ) → nat_eq (length ts) 0 ≡ not (has_any ts)
+none-is [] = refl
+none-is (t ∷ ts) = eqb-suc-zero (length ts)
+
 module _ {cells : List LinkedCell} {slots threads a : ℕ} {h : Frame} (holds : HoldsFrame cells slots threads a h) where
   -- the frame that is read off is the one that they hold
   pub frame-in-is : frame_in cells slots threads a ≡ h

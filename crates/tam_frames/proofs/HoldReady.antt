@@ -72,8 +72,8 @@ module _ {cells : List LinkedCell} {slots threads a : ℕ} {h : Frame} (holds : 
     -- other frames stay
     pub changes-enabled : ChangesFrame cells enabled a (frame_width slots threads)
     changes-enabled =
-        let w : ℕ = frame_width slots threads in let head : IsOneOf a w a = record { from_a = omega arith; below = omega arith } in
-        let cell : IsOneOf a w (thread_cell a t) = record { from_a = omega arith; below = omega (arith, enables.there) } in
+        let w : ℕ = frame_width slots threads in let head : IsOneOf a w a = record { from_a = omega arith; below = omega arith; beside = omega arith } in
+        let cell : IsOneOf a w (thread_cell a t) = record { from_a = omega arith; below = omega (arith, enables.there); beside = omega arith } in
         changes-both (changes-both (changes-written cell one) (changes-linked head cell both)) (changes-written head three)
 
     known : t < length h.counts
@@ -175,7 +175,7 @@ module _ {cells : List LinkedCell} {slots threads a : ℕ} {h : Frame} (holds : 
     -- other frames stay
     pub changes-popped : ChangesFrame cells left_ready a (frame_width slots threads)
     changes-popped =
-        let head : IsOneOf a (frame_width slots threads) a = record { from_a = omega arith; below = omega arith } in
+        let head : IsOneOf a (frame_width slots threads) a = record { from_a = omega arith; below = omega arith; beside = omega arith } in
         changes-both (changes-link cells head a_there (cell_at cells (cell_at cells a).link).link) (changes-written head rewritten)
 
     -- the thread is ready no more

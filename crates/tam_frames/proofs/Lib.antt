@@ -1,18 +1,22 @@
 mod QueueLemmas
 mod TableLemmas
-mod StoreLemmas
-mod SizeLemmas
-mod ViewLemmas
 pub mod LiveLemmas
-mod TurnLemmas
-mod ChangeLemmas
 mod ShownLemmas
+mod SizeLemmas
+mod StoreLemmas
+mod SpentLemmas
+mod ChangeLemmas
+mod TurnLemmas
+mod NextLemmas
 mod ReadyLemmas
 mod ListedLemmas
 mod CellLists
+mod LineHolds
 mod HoldLemmas
 mod HoldChanges
 mod HoldReady
 mod PutLemmas
 mod FrameCellLemmas
+mod LineChanges
+mod WaitLemmas
 mod FrameBegins

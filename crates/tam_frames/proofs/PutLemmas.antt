@@ -1,7 +1,7 @@
 -- Cells that are put, one or several.
 use Rattle.std.proofs.Common.{◌≡◌, ◌≢◌, ◌∙◌, sym, ap, refl, ℕ, ◌+◌, ◌<◌, ◌≤◌, Bool, true, false, List, [], ◌∷◌, ◌++◌, length, arith, inl, inr}
 use Rattle.std.specs.Prelude.{max, nat_lt, slice_index}
-use Rattle.std.proofs.lemmas.Bool.{cases_eq, cases_lt, ltb-true, ltb-false}
+use Rattle.std.proofs.lemmas.Bool.{cases_eq, cases_lt, lt-ltb, ltb-true, ltb-false}
 use Rattle.std.proofs.lemmas.List.{get_or_push, get_or_append_left, get_or_past, length_push}
 use Rattle.linked_cells.specs.Cells.{LinkedCell, cell_at, no_cell, with_words, with_cell, with_put}
 use Rattle.tam_frames.specs.FrameCells.{ArePut}
@@ -13,6 +13,7 @@ pub record IsPut (old new : List LinkedCell) (i first second : ℕ) : Type 0 whe
   pub second_is : (cell_at new i).second ≡ second
   pub others : (j : ℕ) → j ≢ i → cell_at new j ≡ cell_at old j
   pub length_is : length new ≡ max (length old) (i + 1)
+  pub link : i < length old → (cell_at new i).link ≡ (cell_at old i).link
 
 module _ (cells : List LinkedCell) (i first second : ℕ) (next : i ≤ length cells) where
   -- in either case
@@ -25,6 +26,7 @@ module _ (cells : List LinkedCell) (i first second : ℕ) (next : i ≤ length c
         second_is = written.second_is;
         others = written.others;
         length_is = omega (arith, written.length_same, there);
+        link = λ lt. written.links i;
       }
   put-by false is =
       let x : LinkedCell = record { first = first; second = second; link = length cells } in
@@ -33,6 +35,7 @@ module _ (cells : List LinkedCell) (i first second : ℕ) (next : i ≤ length c
         second_is = ap (λ (c : LinkedCell). c.second) (get_or_push cells x no_cell i last);
         others = others;
         length_is = omega (arith, length_push cells x, last);
+        link = λ lt. absurd (omega (arith, lt, last));
       }
     where
       others : (j : ℕ) → j ≢ i → cell_at (with_cell cells first second) j ≡ cell_at cells j
@@ -46,6 +49,10 @@ module _ (cells : List LinkedCell) (i first second : ℕ) (next : i ≤ length c
   -- a cell is put
   pub is-put : IsPut cells (with_put cells i first second) i first second
   is-put = put-by (nat_lt i (length cells)) refl
+
+-- a cell that is there is put
+pub is-set : (cells : List LinkedCell) (i first second : ℕ) → i < length cells → IsPut cells (with_words cells i first second) i first second
+is-set cells i first second there = put-by cells i first second (omega (arith, there)) true (lt-ltb i (length cells) there)
 
 -- none is put
 pub none-put : (old : List LinkedCell) (a : ℕ) (words : List ℕ) → a ≤ length old → ArePut old old a words 0

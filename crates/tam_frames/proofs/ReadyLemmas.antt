@@ -1,12 +1,12 @@
 -- The entry counts of a frame where one of them is spent.
-use Rattle.std.proofs.Common.{◌≡◌, ◌∙◌, sym, ap, refl, ℕ, zero, suc, ◌+◌, ◌-◌, ◌<◌, ◌≤◌, Bool, true, cond, List}
+use Rattle.std.proofs.Common.{◌≡◌, ◌∙◌, sym, ap, refl, ℕ, zero, suc, ◌+◌, ◌-◌, ◌<◌, ◌≤◌, Bool, true, false, cond, List}
 use Rattle.std.proofs.Common.{length, arith}
 use Rattle.std.specs.Prelude.{slice_set, slice_index, count_by}
 use Rattle.std.proofs.lemmas.Bool.{lt-ltb}
 use Rattle.std.proofs.lemmas.List.Sums.{sum_by-set}
 use Rattle.frame_tables.specs.FrameTables.{Frame, spend_answer}
 use Rattle.frame_tables.specs.declared.answers.Spend.TheVariants.{Left}
-use Rattle.tam_frames.specs.HeldFrames.{is_left}
+use Rattle.tam_frames.specs.HeldFrames.{is_left, wakes_of}
 use Rattle.tam_frames.specs.StoredFrames.{frame_spent_of}
 
 module _ (counts : List ℕ) (t : ℕ) (known : t < length counts) where
@@ -41,3 +41,9 @@ pub spent-more : (h : Frame) (t m : ℕ) → 2 ≤ m → frame_spent_of h t m �
 spent-more h t zero more = elim more [ ]
 spent-more h t (suc zero) more = absurd (omega (arith, more))
 spent-more h t (suc (suc n)) more = ap (λ (k : ℕ). record h { counts = slice_set h.counts t k }) (omega arith)
+
+-- nor does it make a thread ready
+pub wakes-more : (h : Frame) (m : ℕ) → 2 ≤ m → wakes_of h m ≡ false
+wakes-more h zero more = absurd (omega (arith, more))
+wakes-more h (suc zero) more = absurd (omega (arith, more))
+wakes-more h (suc (suc m)) more = refl

@@ -1,20 +1,19 @@
--- The live ones among all frames, and a list of frames where one begins.
-use Rattle.std.proofs.Common.{◌≡◌, ap, refl, ℕ, zero, suc, ◌<◌, ◌≤◌, Bool, true, false, cond, List, [], ◌∷◌, ◌++◌, length, Option, Some, None, arith}
+-- The live ones among all frames, and a list where one begins.
+use Rattle.std.proofs.Common.{◌≡◌, ap, refl, ℕ, zero, suc, ◌<◌, ◌≤◌, Bool, true, false, cond, List, [], ◌∷◌, ◌++◌, length, get_or, Option, Some, None, arith}
 use Rattle.std.specs.Prelude.{slice_get, slice_set}
 use Rattle.frame_tables.specs.FrameTables.{Frame, is_some_frame}
 use Rattle.std.proofs.lemmas.Bool.{lt-ltb, le-ltb}
-use Rattle.tam_frames.specs.HeldFrames.{with_frame}
+use Rattle.tam_frames.specs.HeldFrames.{with_next}
 use Rattle.tam_frames.specs.Kept.{shown}
 
--- a frame that is there is another one
-pub with-there : (frames : List Frame) (f : ℕ) (h : Frame) → f < length frames → with_frame frames f h ≡ slice_set frames f h
-with-there frames f h within =
-    ap (λ (b : Bool). elim b [ true ↦ slice_set frames f h | false ↦ frames ++ h ∷ [] ]) (lt-ltb f (length frames) within)
+module _ {X : Type 0} where
+  -- an element that is there is another one
+  pub with-there : (xs : List X) (f : ℕ) (x : X) → f < length xs → with_next xs f x ≡ slice_set xs f x
+  with-there xs f x within = ap (λ (b : Bool). elim b [ true ↦ slice_set xs f x | false ↦ xs ++ x ∷ [] ]) (lt-ltb f (length xs) within)
 
--- the next number is that of a frame more
-pub with-next : (frames : List Frame) (h : Frame) → with_frame frames (length frames) h ≡ frames ++ h ∷ []
-with-next frames h =
-    ap (λ (b : Bool). elim b [ true ↦ slice_set frames (length frames) h | false ↦ frames ++ h ∷ [] ]) (le-ltb (length frames) (length frames) (omega arith))
+  -- the next number is that of one more
+  pub with-more : (xs : List X) (f : ℕ) (x : X) → f ≡ length xs → with_next xs f x ≡ xs ++ x ∷ []
+  with-more xs f x next = ap (λ (b : Bool). elim b [ true ↦ slice_set xs f x | false ↦ xs ++ x ∷ [] ]) (le-ltb f (length xs) (omega (arith, next)))
 
 -- there are as many places as marks
 pub length-shown : (lives : List Bool) (rows : List Frame) → length lives ≤ length rows → length (shown lives rows) ≡ length lives
@@ -74,17 +73,10 @@ shown-push (mark ∷ lives) (k ∷ rows) h same =
     ap (λ (l : List (Option Frame)). cond mark (Some k) None ∷ l) (shown-push lives rows h (omega (arith, same)))
 
 -- what stands at a number is a frame where the number is marked
-pub shown-marked : (lives : List Bool) (rows : List Frame) (f : ℕ) (mark : Bool) → length lives ≤ length rows → slice_get lives f ≡ Some mark
-    → is_some_frame (slice_get (shown lives rows) f) ≡ mark
-shown-marked [] rows f mark fit there = cc
-shown-marked (live ∷ lives) [] f mark fit there = absurd (omega (arith, fit))
-shown-marked (false ∷ lives) (k ∷ rows) zero mark fit there = cc
-shown-marked (true ∷ lives) (k ∷ rows) zero mark fit there = cc
-shown-marked (live ∷ lives) (k ∷ rows) (suc f) mark fit there = shown-marked lives rows f mark (omega (arith, fit)) there
-
--- and none where the number was never used
-pub shown-past : (lives : List Bool) (rows : List Frame) (f : ℕ) → slice_get lives f ≡ None → is_some_frame (slice_get (shown lives rows) f) ≡ false
-shown-past [] rows f none = refl
-shown-past (live ∷ lives) [] f none = refl
-shown-past (live ∷ lives) (k ∷ rows) zero none = cc
-shown-past (live ∷ lives) (k ∷ rows) (suc f) none = shown-past lives rows f none
+pub shown-marked : (lives : List Bool) (rows : List Frame) (f : ℕ) → length lives ≤ length rows
+    → get_or lives f false ≡ is_some_frame (slice_get (shown lives rows) f)
+shown-marked [] rows f fit = refl
+shown-marked (live ∷ lives) [] f fit = absurd (omega (arith, fit))
+shown-marked (false ∷ lives) (k ∷ rows) zero fit = refl
+shown-marked (true ∷ lives) (k ∷ rows) zero fit = refl
+shown-marked (live ∷ lives) (k ∷ rows) (suc f) fit = shown-marked lives rows f (omega (arith, fit))

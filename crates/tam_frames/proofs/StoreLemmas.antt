@@ -1,18 +1,17 @@
 -- The storage of frames where a frame is changed, taken or given back.
-use Rattle.std.proofs.Common.{◌≡◌, ◌∙◌, sym, ap, subst, refl, ℕ, ◌+◌, ◌-◌, ◌<◌, ◌≤◌, true, false, List, [], ◌∷◌, ◌++◌, length, cond, get_or}
-use Rattle.std.proofs.Common.{Option, Some, None, arith}
-use Rattle.std.proofs.Common.{inl, inr}
+use Rattle.std.proofs.Common.{◌≡◌, ◌∙◌, sym, ap, ap₂, subst, refl, ℕ, ◌+◌, ◌-◌, ◌<◌, ◌≤◌, Bool, true, false, List, [], ◌∷◌, ◌++◌, length, drop, cond, get_or}
+use Rattle.std.proofs.Common.{Option, Some, None, inl, inr, arith}
 use Rattle.std.specs.Prelude.{slice_get, slice_set, count_by}
 use Rattle.std.proofs.lemmas.Bool.{cases_eq}
 use Rattle.std.proofs.lemmas.List.{length-set, length_push, get_or-set_same}
 use Rattle.std.proofs.lemmas.Option.{slice_get_past, slice_get_within, get_or_from_slice_get}
 use Rattle.std.proofs.lemmas.List.Sums.{sum_by_push}
-use Rattle.frame_tables.specs.FrameTables.{Frame, no_frame, is_held, is_queued, is_live, is_some_frame, next_number, next_number_of}
+use Rattle.frame_tables.specs.FrameTables.{Frame, no_frame, is_held, is_queued, is_live, is_some_frame, with_new, next_number, next_number_of}
 use Rattle.tam_frames.specs.StoredFrames.{IsSized}
-use Rattle.tam_frames.specs.HeldFrames.{AreSized}
-use Rattle.tam_frames.specs.Kept.{AreFree, Storage, IsStored, numbered, shown, shown_of}
-use Rattle.tam_frames.proofs.TableLemmas.{get-set_same, get-set_other, get-pushed, held-set}
-use Rattle.tam_frames.proofs.ShownLemmas.{length-shown, shown-live, shown-set, shown-free, shown-take, shown-push}
+use Rattle.tam_frames.specs.HeldFrames.{HeldFrames, AreSized, held_with, begun_with, freed}
+use Rattle.tam_frames.specs.Kept.{AreFree, Storage, IsStored, shown, shown_of, stored}
+use Rattle.tam_frames.proofs.TableLemmas.{get-set_same, get-set_other, get-pushed, get-last, held-set}
+use Rattle.tam_frames.proofs.ShownLemmas.{with-there, with-more, length-shown, shown-live, shown-set, shown-free, shown-take, shown-push}
 use Rattle.tam_frames.proofs.QueueLemmas.{not-first, not-behind, queued-behind}
 
 -- a frame of that size is put among frames of that size
@@ -57,45 +56,58 @@ live-absent frames f h (g ∷ free) there are =
     some-not-none : Some (Some h) ≡ Some None → ⊥
     some-not-none is = cc
 
--- the next number isn't live
-pub next-free : {s : Storage} → IsStored s → is_live (numbered (shown_of s) s.free) (next_number (numbered (shown_of s) s.free)) ≡ false
-next-free {s} is = go s.free is.are_free
-  where
-    go : (free : List ℕ) → AreFree (shown_of s) free → is_some_frame (slice_get (shown_of s) (next_number_of free (length (shown_of s)))) ≡ false
-    go [] are = ap is_some_frame (slice_get_past (shown_of s) (length (shown_of s)) (omega arith))
-    go (f ∷ free) are = ap is_some_frame are.0
-
 module _ {s : Storage} (is : IsStored s) where
-  -- each number has a place, and as many places are live as frames
-  pub length-places : length (shown_of s) ≡ length s.lives
-  length-places = length-shown s.lives s.rows (omega (arith, is.rows_there))
+  -- the next number isn't live
+  pub next-free : is_live (stored s).table (next_number (stored s).table) ≡ false
+  next-free = go s.held.free is.are_free
+    where
+      go : (free : List ℕ) → AreFree (shown_of s) free → is_some_frame (slice_get (shown_of s) (next_number_of free (length (shown_of s)))) ≡ false
+      go [] are = ap is_some_frame (slice_get_past (shown_of s) (length (shown_of s)) (omega arith))
+      go (f ∷ free) are = ap is_some_frame are.0
+
+  -- each number has a place
+  pub length-places : length (shown_of s) ≡ length s.held.frames
+  length-places = length-shown s.held.lives s.held.frames (omega (arith, is.lives_there)) ∙ is.lives_there
 
   -- no more frames are live than there are
   pub used-few : s.used ≤ s.count
   used-few = omega (arith, is.used_counted, is.free_counted, is.few)
 
+-- storage with another queue
+pub stored-queued : {s : Storage} → IsStored s → (queue : List ℕ) → IsStored (record s { held = record s.held { queue = queue } })
+stored-queued is queue = record {
+  sized = is.sized;
+  lives_there = is.lives_there;
+  room_there = is.room_there;
+  are_free = is.are_free;
+  free_counted = is.free_counted;
+  used_counted = is.used_counted;
+  few = is.few;
+}
+
 module _ {s : Storage} (is : IsStored s) (f : ℕ) (h : Frame) (there : slice_get (shown_of s) f ≡ Some (Some h)) where
   -- the number of a live frame is no free one
-  absent : is_queued s.free f ≡ false
-  absent = live-absent (shown_of s) f h s.free there is.are_free
+  pub absent : is_queued s.held.free f ≡ false
+  absent = live-absent (shown_of s) f h s.held.free there is.are_free
 
   -- storage in which frame f is changed
-  pub stored-kept : (new : Frame) → IsSized s.slots s.threads new → IsStored (record s { rows = slice_set s.rows f new })
+  pub stored-kept : (new : Frame) → IsSized s.held.slots s.held.threads new → IsStored (record s { held = held_with s.held f new })
   stored-kept new fits = record {
-    sized = sized-set s.slots s.threads s.rows f new fits is.sized;
-    rows_there = length-set s.rows f new ∙ is.rows_there;
-    rows_fit = is.rows_fit;
-    are_free = subst (λ (l : List (Option Frame)). AreFree l s.free) (sym shows) (free-beside (shown_of s) f (Some new) s.free absent is.are_free);
-    free_counted = omega (arith, is.free_counted, count, ap (λ (l : List (Option Frame)). count_by is_held l) shows);
+    sized = sized-set s.held.slots s.held.threads s.held.frames f new fits is.sized;
+    lives_there = omega (arith, is.lives_there, same);
+    room_there = is.room_there;
+    are_free = subst (λ (l : List (Option Frame)). AreFree l s.held.free) (sym shows)
+        (free-beside (shown_of s) f (Some new) s.held.free absent is.are_free);
+    free_counted = omega (arith, is.free_counted, count, ap (λ (l : List (Option Frame)). count_by is_held l) shows, same);
     used_counted = omega (arith, is.used_counted, count, ap (λ (l : List (Option Frame)). count_by is_held l) shows);
-    few = is.few;
-    small = is.small;
-    lives_fit = is.lives_fit;
-    free_fit = is.free_fit;
+    few = omega (arith, is.few, same);
   }
     where
-      shows : shown s.lives (slice_set s.rows f new) ≡ slice_set (shown_of s) f (Some new)
-      shows = shown-set s.lives s.rows f new (shown-live s.lives s.rows f h there)
+      same : length (slice_set s.held.frames f new) ≡ length s.held.frames
+      same = length-set s.held.frames f new
+
+      shows : shown s.held.lives (slice_set s.held.frames f new) ≡ slice_set (shown_of s) f (Some new)
+      shows = shown-set s.held.lives s.held.frames f new (shown-live s.held.lives s.held.frames f h there)
 
       count : count_by is_held (slice_set (shown_of s) f (Some new)) + 1 ≡ count_by is_held (shown_of s) + 1
       count = held-set (shown_of s) f (Some h) (Some new) there
@@ -108,93 +120,144 @@ module _ {s : Storage} (is : IsStored s) (f : ℕ) (h : Frame) (there : slice_ge
   pub some-used : 0 < s.used
   some-used = omega (arith, less, is.used_counted)
 
-  -- and there is room for one free number more
-  pub room-free : length s.free < s.free_room
-  room-free = omega (arith, is.free_counted, is.few, is.free_fit, less)
-
   -- storage to which frame f was given back
-  pub stored-given : IsStored (record s { lives = slice_set s.lives f false; free = f ∷ s.free; used = s.used - 1 })
+  pub stored-given : IsStored (record s { held = freed s.held f; used = s.used - 1 })
   stored-given = record {
     sized = is.sized;
-    rows_there = omega (arith, is.rows_there, length-set s.lives f false);
-    rows_fit = is.rows_fit;
-    are_free = subst (λ (l : List (Option Frame)). AreFree l (f ∷ s.free)) (sym shows)
-        (get-set_same (shown_of s) f None (Some h) there, (absent, free-beside (shown_of s) f None s.free absent is.are_free));
-    free_counted = omega (arith, is.free_counted, less, length-set s.lives f false, count);
+    lives_there = omega (arith, is.lives_there, length-set s.held.lives f false);
+    room_there = is.room_there;
+    are_free = subst (λ (l : List (Option Frame)). AreFree l (f ∷ s.held.free)) (sym shows)
+        (get-set_same (shown_of s) f None (Some h) there, (absent, free-beside (shown_of s) f None s.held.free absent is.are_free));
+    free_counted = omega (arith, is.free_counted, less, count);
     used_counted = omega (arith, is.used_counted, less, count);
-    few = omega (arith, is.few, length-set s.lives f false);
-    small = is.small;
-    lives_fit = is.lives_fit;
-    free_fit = is.free_fit;
+    few = is.few;
   }
     where
-      shows : shown (slice_set s.lives f false) s.rows ≡ slice_set (shown_of s) f None
-      shows = shown-free s.lives s.rows f
+      shows : shown (slice_set s.held.lives f false) s.held.frames ≡ slice_set (shown_of s) f None
+      shows = shown-free s.held.lives s.held.frames f
 
-      count : count_by is_held (shown (slice_set s.lives f false) s.rows) ≡ count_by is_held (slice_set (shown_of s) f None)
+      count : count_by is_held (shown (slice_set s.held.lives f false) s.held.frames) ≡ count_by is_held (slice_set (shown_of s) f None)
       count = ap (λ (l : List (Option Frame)). count_by is_held l) shows
 
-module _ {s : Storage} (is : IsStored s) where
-  -- the first of the free numbers stands among the marks
-  pub free-within : (f : ℕ) (free : List ℕ) → s.free ≡ f ∷ free → f < length s.lives
-  free-within f free free_is =
-      let are : AreFree (shown_of s) (f ∷ free) = subst (AreFree (shown_of s)) free_is is.are_free in
-      omega (arith, slice_get_within (shown_of s) f None are.0, length-places is)
+-- the storage where a frame has begun at number n, and those numbers are still free
+abbrev pub with_taken : Storage → Frame → ℕ → List ℕ → Storage
+with_taken s new n free = record s { held = begun_with (record s.held { free = free }) n new; used = s.used + 1 }
 
-  -- where no number is free and fewer are live than may be, one number more is left
-  pub count-grown : s.free ≡ [] → s.used < s.count → length s.lives < s.count
-  count-grown free_is room =
-      let none_free : length s.free ≡ 0 = ap (λ (l : List ℕ). length l) free_is in
-      omega (arith, is.free_counted, is.used_counted, none_free, room)
+-- what holds of it
+pub record IsTaken (s : Storage) (new : Frame) (n : ℕ) (free : List ℕ) : Type 0 where
+  pub below : n < s.count
+  pub next : n ≤ length s.held.frames
+  pub is : IsStored (with_taken s new n free)
+  pub stands : slice_get (shown_of (with_taken s new n free)) n ≡ Some (Some new)
+  pub table_is : (stored (with_taken s new n free)).table ≡ with_new (stored s).table s.held.free new
 
-  module _ (new : Frame) (fits : IsSized s.slots s.threads new) where
-    -- storage of which a frame was taken, for the first of the free numbers
-    pub stored-taken : (f : ℕ) (free : List ℕ) → s.free ≡ f ∷ free
-        → IsStored (record s { rows = slice_set s.rows f new; lives = slice_set s.lives f true; free = free; used = s.used + 1 })
-    stored-taken f free free_is = record {
-      sized = sized-set s.slots s.threads s.rows f new fits is.sized;
-      rows_there = omega (arith, is.rows_there, length-set s.rows f new, length-set s.lives f true);
-      rows_fit = is.rows_fit;
+module _ {s : Storage} (is : IsStored s) (new : Frame) (fits : IsSized s.held.slots s.held.threads new) where
+  -- a frame is taken for the first of the free numbers
+  module _ (f : ℕ) (free : List ℕ) (free_is : s.held.free ≡ f ∷ free) where
+    are : AreFree (shown_of s) (f ∷ free)
+    are = subst (AreFree (shown_of s)) free_is is.are_free
+
+    -- it stands among the frames
+    within : f < length s.held.frames
+    within = omega (arith, slice_get_within (shown_of s) f None are.0, length-places is)
+
+    -- the storage then
+    abbrev after_first : HeldFrames
+    after_first = record s.held { frames = slice_set s.held.frames f new; lives = slice_set s.held.lives f true; free = free }
+
+    first-is : with_taken s new f free ≡ record s { held = after_first; used = s.used + 1 }
+    first-is =
+        ap₂ (λ (frames : List Frame) (lives : List Bool). record s {
+          held = record s.held { frames = frames; lives = lives; free = free };
+          used = s.used + 1;
+        }) (with-there s.held.frames f new within) (with-there s.held.lives f true (omega (arith, within, is.lives_there)))
+
+    shows : shown after_first.lives after_first.frames ≡ slice_set (shown_of s) f (Some new)
+    shows = shown-take s.held.lives s.held.frames f new
+
+    one_more : count_by is_held (shown after_first.lives after_first.frames) + 0 ≡ count_by is_held (shown_of s) + 1
+    one_more = ap (λ (l : List (Option Frame)). count_by is_held l + 0) shows ∙ held-set (shown_of s) f None (Some new) are.0
+
+    rows : length after_first.frames ≡ length s.held.frames
+    rows = length-set s.held.frames f new
+
+    stored-first : IsStored (record s { held = after_first; used = s.used + 1 })
+    stored-first = record {
+      sized = sized-set s.held.slots s.held.threads s.held.frames f new fits is.sized;
+      lives_there = omega (arith, is.lives_there, rows, length-set s.held.lives f true);
+      room_there = is.room_there;
       are_free = subst (λ (l : List (Option Frame)). AreFree l free) (sym shows) (free-beside (shown_of s) f (Some new) free are.1.0 are.1.1);
-      free_counted = omega (arith, is.free_counted, taken, length-set s.lives f true, ap (λ (l : List ℕ). length l) free_is);
-      used_counted = omega (arith, is.used_counted, taken);
-      few = omega (arith, is.few, length-set s.lives f true);
-      small = is.small;
-      lives_fit = is.lives_fit;
-      free_fit = is.free_fit;
+      free_counted = omega (arith, is.free_counted, one_more, rows, ap (λ (l : List ℕ). length l) free_is);
+      used_counted = omega (arith, is.used_counted, one_more);
+      few = omega (arith, is.few, rows);
     }
-      where
-        are : AreFree (shown_of s) (f ∷ free)
-        are = subst (AreFree (shown_of s)) free_is is.are_free
 
-        shows : shown (slice_set s.lives f true) (slice_set s.rows f new) ≡ slice_set (shown_of s) f (Some new)
-        shows = shown-take s.lives s.rows f new
+    taken-first : IsTaken s new f free
+    taken-first = record {
+      below = omega (arith, within, is.few);
+      next = omega (arith, within);
+      is = subst IsStored (sym first-is) stored-first;
+      stands = ap (λ (t : Storage). slice_get (shown_of t) f) first-is ∙ ap (λ (l : List (Option Frame)). slice_get l f) shows
+          ∙ get-set_same (shown_of s) f (Some new) None are.0;
+      table_is = ap (λ (t : Storage). (stored t).table) first-is
+          ∙ ap (λ (l : List (Option Frame)). record (stored s).table { frames = l; free = free }) shows
+          ∙ ap (λ (l : List ℕ). with_new (stored s).table l new) (sym free_is);
+    }
 
-        taken : count_by is_held (shown (slice_set s.lives f true) (slice_set s.rows f new)) + 0 ≡ count_by is_held (shown_of s) + 1
-        taken = ap (λ (l : List (Option Frame)). count_by is_held l + 0) shows ∙ held-set (shown_of s) f None (Some new) are.0
+  -- a frame is taken for the least number that was never used, where fewer are live than may be
+  module _ (room : s.used < s.count) (free_is : s.held.free ≡ []) where
+    none_free : length s.held.free ≡ 0
+    none_free = ap (λ (l : List ℕ). length l) free_is
 
-    -- storage of which it was taken, for a number that was never used
-    pub stored-grown : s.free ≡ [] → s.used < s.count
-        → IsStored (record s { rows = s.rows ++ new ∷ []; lives = s.lives ++ true ∷ []; free = []; used = s.used + 1 })
-    stored-grown free_is room = record {
-      sized = sized-push s.slots s.threads s.rows new fits is.sized;
-      rows_there = omega (arith, is.rows_there, length_push s.rows new, length_push s.lives true);
-      rows_fit = is.rows_fit;
+    -- one number more is left
+    grown : length s.held.frames < s.count
+    grown = omega (arith, is.free_counted, is.used_counted, none_free, room)
+
+    -- the storage then
+    abbrev after_next : HeldFrames
+    after_next = record s.held { frames = s.held.frames ++ new ∷ []; lives = s.held.lives ++ true ∷ []; free = [] }
+
+    next-is : with_taken s new (length s.held.frames) [] ≡ record s { held = after_next; used = s.used + 1 }
+    next-is =
+        ap₂ (λ (frames : List Frame) (lives : List Bool). record s {
+          held = record s.held { frames = frames; lives = lives; free = [] };
+          used = s.used + 1;
+        }) (with-more s.held.frames (length s.held.frames) new refl) (with-more s.held.lives (length s.held.frames) true (sym is.lives_there))
+
+    shows_more : shown after_next.lives after_next.frames ≡ shown_of s ++ Some new ∷ []
+    shows_more = shown-push s.held.lives s.held.frames new (sym is.lives_there)
+
+    more : count_by is_held (shown after_next.lives after_next.frames) ≡ count_by is_held (shown_of s) + 1
+    more = ap (λ (l : List (Option Frame)). count_by is_held l) shows_more
+        ∙ sum_by_push (λ (o : Option Frame). cond {A = ℕ} (is_held o) 1 0) (shown_of s) (Some new)
+
+    stored-next : IsStored (record s { held = after_next; used = s.used + 1 })
+    stored-next = record {
+      sized = sized-push s.held.slots s.held.threads s.held.frames new fits is.sized;
+      lives_there = omega (arith, is.lives_there, length_push s.held.frames new, length_push s.held.lives true);
+      room_there = is.room_there;
       are_free = tt;
-      free_counted = omega (arith, is.free_counted, taken, length_push s.lives true, none_free);
-      used_counted = omega (arith, is.used_counted, taken);
-      few = omega (arith, count-grown free_is room, length_push s.lives true);
-      small = is.small;
-      lives_fit = is.lives_fit;
-      free_fit = is.free_fit;
+      free_counted = omega (arith, is.free_counted, more, length_push s.held.frames new, none_free);
+      used_counted = omega (arith, is.used_counted, more);
+      few = omega (arith, grown, length_push s.held.frames new);
     }
-      where
-        none_free : length s.free ≡ 0
-        none_free = ap (λ (l : List ℕ). length l) free_is
 
-        shows : shown (s.lives ++ true ∷ []) (s.rows ++ new ∷ []) ≡ shown_of s ++ Some new ∷ []
-        shows = shown-push s.lives s.rows new is.rows_there
+    taken-next : IsTaken s new (length s.held.frames) []
+    taken-next = record {
+      below = grown;
+      next = omega arith;
+      is = subst IsStored (sym next-is) stored-next;
+      stands = ap (λ (t : Storage). slice_get (shown_of t) (length s.held.frames)) next-is
+          ∙ ap₂ (λ (l : List (Option Frame)) (n : ℕ). slice_get l n) shows_more (sym (length-places is)) ∙ get-last (shown_of s) (Some new);
+      table_is = ap (λ (t : Storage). (stored t).table) next-is
+          ∙ ap₂ (λ (l : List (Option Frame)) (free : List ℕ). record (stored s).table { frames = l; free = free }) shows_more (sym free_is)
+          ∙ ap (λ (l : List ℕ). with_new (stored s).table l new) (sym free_is);
+    }
 
-        taken : count_by is_held (shown (s.lives ++ true ∷ []) (s.rows ++ new ∷ [])) ≡ count_by is_held (shown_of s) + 1
-        taken = ap (λ (l : List (Option Frame)). count_by is_held l) shows
-            ∙ sum_by_push (λ (o : Option Frame). cond {A = ℕ} (is_held o) 1 0) (shown_of s) (Some new)
+  -- a frame is taken for the next number
+  pub is-taken : s.used < s.count → IsTaken s new (next_number_of s.held.free (length s.held.frames)) (drop 1 s.held.free)
+  is-taken room = go s.held.free refl
+    where
+      go : (free : List ℕ) → s.held.free ≡ free → IsTaken s new (next_number_of free (length s.held.frames)) (drop 1 free)
+      go [] free_is = taken-next room free_is
+      go (f ∷ free) free_is = taken-first f free free_is

@@ -49,14 +49,6 @@ live-there s f live = go (slice_get s.frames f) live
     go (Some None) is = cc
     go (Some (Some h)) is = refl
 
--- a frame that stands at a number is that number's
-pub there-frame : (s : FrameTable) (f : ℕ) (h : Frame) → slice_get s.frames f ≡ Some (Some h) → frame_at s f ≡ h
-there-frame s f h there = ap or_frame there
-
--- and it is live
-pub there-live : (s : FrameTable) (f : ℕ) (h : Frame) → slice_get s.frames f ≡ Some (Some h) → is_live s f ≡ true
-there-live s f h there = ap is_some_frame there
-
 -- a live frame is changed where it stands
 pub changed_in-there : (frames : List (Option Frame)) (f : ℕ) (h : Frame) (change : Frame → Frame) → slice_get frames f ≡ Some (Some h)
     → changed_in frames f change ≡ slice_set frames f (Some (change h))

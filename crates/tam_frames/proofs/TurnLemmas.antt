@@ -1,200 +1,81 @@
 -- What is kept of turns, behind each step.
-use Rattle.std.proofs.Common.{◌≡◌, ◌∙◌, sym, ap, subst, refl, ℕ, zero, suc, Bool, true, false, true≢false, ◌==◌, List, [], ◌∷◌, ◌++◌, Option, Some, None}
-use Rattle.std.specs.Prelude.{slice_get, drop}
-use Rattle.frame_tables.specs.FrameTables.{Frame, FrameTable, or_frame, is_live, frame_at, changed_in, changed, spent, count_in}
-use Rattle.frame_tables.specs.FrameTables.{new_frame, taken, given_back, is_current, is_queued, rested, current_of, given_of, next_of, next_thread, next_number}
-use Rattle.tam_frames.specs.StoredFrames.{StoredFrames, with_table, with_frames, with_turns, has_any, is_busy, frame_popped, popped}
-use Rattle.tam_frames.specs.Turns.{Turns, joined, begun, ended, left, turn_of, queue_behind}
-use Rattle.tam_frames.specs.Kept.{AreBusy, AreInTurn}
-use Rattle.tam_frames.proofs.QueueLemmas.{queued-first, number-differs}
-use Rattle.tam_frames.proofs.TableLemmas.{busy-live}
-use Rattle.tam_frames.proofs.LiveLemmas.{live-changed, busy-changed, busy-beside, live-spent, busy-spent, live-given, busy-given, live-new, busy-new}
+use Rattle.std.proofs.Common.{◌≡◌, ◌∙◌, sym, ap, subst, refl, ℕ, true, false, true≢false, List, [], ◌∷◌, ◌++◌, Option}
+use Rattle.std.proofs.Common.{◌⊎◌, inl, inr}
+use Rattle.std.proofs.lemmas.Bool.{cases_eq}
+use Rattle.frame_tables.specs.FrameTables.{Frame, FrameTable, is_live, frame_at, changed, spent, count_in}
+use Rattle.frame_tables.specs.FrameTables.{with_new, new_frame, taken, is_current, is_queued, next_number}
+use Rattle.tam_frames.specs.HeldFrames.{wakes}
+use Rattle.tam_frames.specs.StoredFrames.{has_any, is_busy}
+use Rattle.tam_frames.specs.Kept.{AreInTurn, IsDistinctQueue}
+use Rattle.tam_frames.proofs.QueueLemmas.{queued-joined, queued-beside, distinct-joined}
+use Rattle.tam_frames.proofs.LiveLemmas.{live-changed, busy-beside, busy-changed, live-spent, busy-spent, busy-spent_beside, busy-woken, idle-woken}
+use Rattle.tam_frames.proofs.LiveLemmas.{live-new, busy-new}
 
--- frames in a list stay busy where each of them does
-busy-kept : (old new : FrameTable) (queue : List ℕ) → ((g : ℕ) → is_queued queue g ≡ true → is_busy old g ≡ true → is_busy new g ≡ true)
-    → AreBusy old queue → AreBusy new queue
-busy-kept old new [] keeps busy = tt
-busy-kept old new (f ∷ queue) keeps busy = (
-  keeps f (queued-first queue f) busy.0,
-  busy-kept old new queue (λ g there is. keeps g (elim (f == g) as (λ t. elim t [ true ↦ true | false ↦ is_queued queue g ] ≡ true) [
-    | true ↦ refl
-    | false ↦ there
-  ]) is) busy.1,
-)
+-- other frames, of which the live ones stay live and the same are busy
+pub turns-kept : {s : FrameTable} → AreInTurn s → (t : FrameTable) → t.queue ≡ s.queue → t.current ≡ s.current
+    → ((g : ℕ) → is_live s g ≡ true → is_live t g ≡ true) → ((g : ℕ) → is_current s.current g ≡ false → is_busy t g ≡ is_busy s g) → AreInTurn t
+turns-kept {s} old t queue_is current_is live busy = record {
+  live = λ g is. live g (old.live g (ap (λ (o : Option ℕ). is_current o g) (sym current_is) ∙ is));
+  apart = λ g is. ap (λ (l : List ℕ). is_queued l g) queue_is ∙ old.apart g (ap (λ (o : Option ℕ). is_current o g) (sym current_is) ∙ is);
+  waits = λ g is.
+      let other : is_current s.current g ≡ false = ap (λ (o : Option ℕ). is_current o g) (sym current_is) ∙ is in
+      ap (λ (l : List ℕ). is_queued l g) queue_is ∙ old.waits g other ∙ sym (busy g other);
+  distinct = subst IsDistinctQueue (sym queue_is) old.distinct;
+}
 
--- one more
-busy-joined : (s : FrameTable) (queue : List ℕ) (f : ℕ) → AreBusy s queue → is_busy s f ≡ true → AreBusy s (queue ++ f ∷ [])
-busy-joined s [] f busy is = (is, tt)
-busy-joined s (g ∷ queue) f busy is = (busy.0, busy-joined s queue f busy.1 is)
+module _ {s : FrameTable} (old : AreInTurn s) (f : ℕ) where
+  -- a frame is changed and stays as busy as it is
+  pub turns-changed : (change : Frame → Frame) → ((h : Frame) → has_any (change h).ready ≡ has_any h.ready) → AreInTurn (changed s f change)
+  turns-changed change keeps =
+      turns-kept old (changed s f change) refl refl (λ g is. live-changed s f g change ∙ is) (λ g other. busy-changed s f g change keeps)
 
-module _ (s : StoredFrames) (turns : Turns) (room : ℕ) (old : AreInTurn (with_turns s turns) room) where
-  -- a frame is changed that stays as ready as it is
-  pub turns-changed : (f : ℕ) (change : Frame → Frame) → ((h : Frame) → has_any h.ready ≡ true → has_any (change h).ready ≡ true)
-      → AreInTurn (with_turns (with_table s (changed s.table f change)) turns) room
-  turns-changed f change keeps = record {
-    busy = busy-kept (with_turns s turns).table (with_turns (with_table s (changed s.table f change)) turns).table turns.queue
-        (λ g there busy. busy-changed s.table f g change keeps busy) old.busy;
-    live = λ g is. live-changed s.table f g change ∙ old.live g is;
-    same_room = old.same_room;
-  }
+  -- the current frame is changed
+  pub turns-current : is_current s.current f ≡ true → (change : Frame → Frame) → AreInTurn (changed s f change)
+  turns-current is change =
+      turns-kept old (changed s f change) refl refl (λ g live. live-changed s f g change ∙ live)
+      (λ g other. busy-beside s f g change (λ same. true≢false (sym is ∙ ap (λ (k : ℕ). is_current s.current k) (sym same) ∙ other)))
 
-  -- one of an entry count is spent
-  pub turns-spent : (f t : ℕ) → AreInTurn (with_turns (with_frames s (spent s.table f t)) turns) room
-  turns-spent f t = record {
-    busy = busy-kept (with_turns s turns).table (with_turns (with_frames s (spent s.table f t)) turns).table turns.queue
-        (λ g there busy. busy-spent s.table f g t (count_in s.table f t) busy) old.busy;
-    live = λ g is. live-spent s.table f g t (count_in s.table f t) ∙ old.live g is;
-    same_room = old.same_room;
-  }
+  module _ (t : ℕ) (live : is_live s f ≡ true) where
+    -- the frames where one of an entry count is spent
+    abbrev frames_spent : List (Option Frame)
+    frames_spent = (spent s f t).frames
 
-  -- a busy frame joins the queue
-  pub turns-joined : (f : ℕ) → is_busy s.table f ≡ true → AreInTurn (with_turns s (joined turns f)) room
-  turns-joined f busy = record {
-    busy = go (is_current turns.current f) (is_queued turns.queue f);
-    live = old.live;
-    same_room = old.same_room;
-  }
-    where
-      go : (t u : Bool) → AreBusy (with_turns s (joined turns f)).table (elim t [
-        | true ↦ turns.queue
-        | false ↦ elim u [ true ↦ turns.queue | false ↦ turns.queue ++ f ∷ [] ]
-      ])
-      go true u = busy-kept (with_turns s turns).table (with_turns s (joined turns f)).table turns.queue (λ g there is. is) old.busy
-      go false true = busy-kept (with_turns s turns).table (with_turns s (joined turns f)).table turns.queue (λ g there is. is) old.busy
-      go false false = busy-joined (with_turns s (joined turns f)).table turns.queue f
-          (busy-kept (with_turns s turns).table (with_turns s (joined turns f)).table turns.queue (λ g there is. is) old.busy) busy
+    -- the current frame waits for nothing more, nor does one that had a ready thread or gets none
+    pub turns-spent : (is_current s.current f ≡ true) ⊎ (wakes (frame_at s f) t ≡ false) → AreInTurn (record s { frames = frames_spent })
+    turns-spent (inl is) =
+        turns-kept old (record s { frames = frames_spent }) refl refl (λ g is. live-spent s f g t (count_in s f t) ∙ is)
+        (λ g other. busy-spent_beside s f g t (count_in s f t)
+        (λ same. true≢false (sym is ∙ ap (λ (k : ℕ). is_current s.current k) (sym same) ∙ other)))
+    turns-spent (inr quiet) =
+        turns-kept old (record s { frames = frames_spent }) refl refl (λ g is. live-spent s f g t (count_in s f t) ∙ is)
+        (λ g other. busy-spent s f g t (count_in s f t) live quiet)
 
-  -- a frame is taken
-  pub turns-taken : (slots threads : ℕ) (counts : List ℕ) → is_live s.table (next_number s.table) ≡ false
-      → AreInTurn (with_turns (with_table s (taken s.table slots threads counts)) turns) room
-  turns-taken slots threads counts fresh = record {
-    busy = busy-kept (with_turns s turns).table (with_turns (with_table s (taken s.table slots threads counts)) turns).table turns.queue
-        (λ g there busy. busy-new s.table (new_frame slots threads counts) g fresh busy) old.busy;
-    live = λ g is. live-new s.table (new_frame slots threads counts) g fresh (old.live g is);
-    same_room = old.same_room;
-  }
+    -- another frame that gets its first ready thread waits
+    pub turns-woken : is_current s.current f ≡ false → wakes (frame_at s f) t ≡ true
+        → AreInTurn (record s { frames = frames_spent; queue = s.queue ++ f ∷ [] })
+    turns-woken other woken = record {
+      live = λ g is. live-spent s f g t (count_in s f t) ∙ old.live g is;
+      apart = λ g is. queued-beside s.queue f g (λ same. true≢false (sym is ∙ ap (λ (k : ℕ). is_current s.current k) (sym same) ∙ other)) ∙ old.apart g is;
+      waits = λ g is. elim (cases_eq g f) [
+        | inl same ↦ ap (λ (k : ℕ). is_queued (s.queue ++ f ∷ []) k) same ∙ queued-joined s.queue f
+            ∙ sym (busy-woken s f t (count_in s f t) live woken) ∙ ap (λ (k : ℕ). is_busy (record s { frames = frames_spent }) k) (sym same)
+        | inr differ ↦ queued-beside s.queue f g (λ same. differ (sym same)) ∙ old.waits g is
+            ∙ sym (busy-spent_beside s f g t (count_in s f t) differ)
+      ];
+      distinct = distinct-joined s.queue f (old.waits f other ∙ idle-woken (frame_at s f) (count_in s f t) woken) old.distinct;
+    }
 
-  -- a frame without a ready thread is given back
-  pub turns-given : (f : ℕ) → is_busy s.table f ≡ false → AreInTurn (with_turns (with_table s (given_back s.table f)) (left turns f)) room
-  turns-given f idle = record {
-    busy = busy-kept (with_turns s turns).table (with_turns (with_table s (given_back s.table f)) (left turns f)).table turns.queue
-        (λ g there busy. busy-given s.table f g (λ same. true≢false (sym busy ∙ ap (λ (k : ℕ). is_busy s.table k) same ∙ idle)) ∙ busy) old.busy;
-    live = λ g is. go turns.current g refl is;
-    same_room = old.same_room;
-  }
-    where
-      at : (c g : ℕ) (t : Bool) → (c == f) ≡ t → turns.current ≡ Some c → elim t [ true ↦ None | false ↦ Some c ] ≡ Some g
-          → is_live (given_back s.table f) g ≡ true
-      at c g true test current is = cc
-      at c g false test current is =
-          let same : c ≡ g = cc in
-          live-given s.table f g (λ here. number-differs c f test (same ∙ here)) ∙ old.live g (current ∙ ap Some same)
-
-      go : (current : Option ℕ) (g : ℕ) → turns.current ≡ current → elim (is_current current f) [ true ↦ None | false ↦ current ] ≡ Some g
-          → is_live (given_back s.table f) g ≡ true
-      go None g same is = cc
-      go (Some c) g same is = at c g (c == f) refl same is
-
-  -- the current frame's turn ends
-  pub turns-ended : AreInTurn (with_turns s (ended turns)) room
-  turns-ended = record {
-    busy = busy-kept (with_turns s turns).table (with_turns s (ended turns)).table turns.queue (λ g there is. is) old.busy;
-    live = λ g is. absurd (none-not-some g is);
-    same_room = old.same_room;
-  }
-    where
-      none-not-some : (g : ℕ) → None ≡ Some g → ⊥
-      none-not-some g is = cc
-
-  -- the next turn begins, and its frame gives a thread
-  pub turns-next : (f : ℕ) → turn_of turns.current turns.queue ≡ Some f → is_queued (queue_behind turns.current turns.queue) f ≡ false
-      → is_busy s.table f ≡ true → AreInTurn (with_turns (with_table s (popped s.table f)) (begun turns)) room
-  turns-next f turn gone busy = record {
-    busy = busy-kept (with_turns s turns).table (with_turns (with_table s (popped s.table f)) (begun turns)).table (queue_behind turns.current turns.queue)
-        (λ g there is. busy-beside s.table f g frame_popped (λ same.
-        true≢false (sym there ∙ ap (λ (k : ℕ). is_queued (queue_behind turns.current turns.queue) k) same ∙ gone)) ∙ is)
-        (behind turns.current turns.queue old.busy);
-    live = λ g is. let same : f ≡ g = cc in live-changed s.table f g frame_popped ∙ ap (λ (k : ℕ). is_live s.table k) (sym same) ∙ busy-live s.table f busy;
-    same_room = old.same_room;
-  }
-    where
-      behind : (current : Option ℕ) (queue : List ℕ) → AreBusy (with_turns s turns).table queue
-          → AreBusy (with_turns s turns).table (queue_behind current queue)
-      behind (Some c) queue are = are
-      behind None [] are = are
-      behind None (g ∷ queue) are = are.1
-
--- where the current frame is busy, and each in the queue, the frame whose turn is next is busy
-pub turn-busy : (s : FrameTable) (f : ℕ) → ((g : ℕ) → s.current ≡ Some g → is_busy s g ≡ true) → AreBusy s s.queue → turn_of s.current s.queue ≡ Some f
-    → is_busy s f ≡ true
-turn-busy s f current_busy busy turn = go s.current s.queue current_busy busy turn
+-- a frame is taken
+pub turns-taken : {s : FrameTable} → AreInTurn s → (slots threads : ℕ) (counts : List ℕ) → is_live s (next_number s) ≡ false
+    → AreInTurn (taken s slots threads counts)
+turns-taken {s} old slots threads counts fresh =
+    let h : Frame = new_frame slots threads counts in
+    turns-kept old (with_new s s.free h) (queue-same s.free) (current-same s.free) (λ g is. live-new s h g fresh is) (λ g other. busy-new s h g fresh refl)
   where
-    go : (current : Option ℕ) (queue : List ℕ) → ((g : ℕ) → current ≡ Some g → is_busy s g ≡ true) → AreBusy s queue → turn_of current queue ≡ Some f
-        → is_busy s f ≡ true
-    go (Some g) queue current_busy busy turn = current_busy f turn
-    go None [] current_busy busy turn = cc
-    go None (g ∷ queue) current_busy busy turn = let same : g ≡ f = cc in subst (λ (k : ℕ). is_busy s k ≡ true) same busy.0
+    queue-same : (free : List ℕ) → (with_new s free (new_frame slots threads counts)).queue ≡ s.queue
+    queue-same [] = refl
+    queue-same (f ∷ free) = refl
 
--- behind a rest the current frame is busy
-pub rested-busy : (s : FrameTable) (f : ℕ) → current_of s s.current ≡ Some f → is_busy s f ≡ true
-rested-busy s f is = go s.current is
-  where
-    ready : (c : ℕ) (ready : List ℕ) → (frame_at s c).ready ≡ ready → elim ready [ [] ↦ None | t ∷ ts ↦ Some c ] ≡ Some f → is_busy s f ≡ true
-    ready c [] same is = cc
-    ready c (t ∷ ts) same is = let here : c ≡ f = cc in subst (λ (k : ℕ). is_busy s k ≡ true) here (ap has_any same)
-
-    go : (current : Option ℕ) → current_of s current ≡ Some f → is_busy s f ≡ true
-    go None is = cc
-    go (Some c) is = ready c (frame_at s c).ready refl is
-
--- two changes that are the same of the frame at their number
-changed_in-same : (frames : List (Option Frame)) (f : ℕ) (a b : Frame → Frame) → a (or_frame (slice_get frames f)) ≡ b (or_frame (slice_get frames f))
-    → changed_in frames f a ≡ changed_in frames f b
-changed_in-same [] f a b same = refl
-changed_in-same (None ∷ frames) zero a b same = refl
-changed_in-same (Some h ∷ frames) zero a b same = ap (λ (k : Frame). Some k ∷ frames) same
-changed_in-same (None ∷ frames) (suc f) a b same = ap (λ (l : List (Option Frame)). None ∷ l) (changed_in-same frames f a b same)
-changed_in-same (Some h ∷ frames) (suc f) a b same = ap (λ (l : List (Option Frame)). Some h ∷ l) (changed_in-same frames f a b same)
-
--- a frame gives the thread that became ready last
-given-is : (s : FrameTable) (f t : ℕ) → slice_get (frame_at s f).ready 0 ≡ Some t
-    → given_of s f (frame_at s f).ready ≡ (Some (f, t), record (popped s f) { current = Some f })
-given-is s f t first = go (frame_at s f).ready refl first
-  where
-    go : (ready : List ℕ) → (frame_at s f).ready ≡ ready → slice_get ready 0 ≡ Some t
-        → given_of s f ready ≡ (Some (f, t), record (popped s f) { current = Some f })
-    go [] same first = cc
-    go (u ∷ us) same first =
-        let here : u ≡ t = cc in
-        let rest : us ≡ drop 1 (frame_at s f).ready = ap (λ (l : List ℕ). drop 1 l) (sym same) in
-        let frames : changed_in s.frames f (λ h. record h { ready = us }) ≡ changed_in s.frames f frame_popped =
-        changed_in-same s.frames f (λ h. record h { ready = us }) frame_popped (ap (λ (l : List ℕ). record (frame_at s f) { ready = l }) rest) in
-        ap (λ (k : ℕ). (Some (f, k), record (changed s f (λ h. record h { ready = us })) { current = Some f })) here
-        ∙ ap (λ (l : List (Option Frame)). (Some (f, t), record s { frames = l; current = Some f })) frames
-
--- the next thread, by whose turn it is
-pub next-is : (s : FrameTable) (f t : ℕ) → turn_of s.current s.queue ≡ Some f → slice_get (frame_at s f).ready 0 ≡ Some t
-    → next_of s s.current s.queue ≡ (Some (f, t), record (popped s f) { queue = queue_behind s.current s.queue; current = Some f })
-next-is s f t turn first = go s.current s.queue refl refl turn
-  where
-    go : (current : Option ℕ) (queue : List ℕ) → s.current ≡ current → s.queue ≡ queue → turn_of current queue ≡ Some f
-        → next_of s current queue ≡ (Some (f, t), record (popped s f) { queue = queue_behind current queue; current = Some f })
-    go (Some g) queue current_is queue_is turn =
-        let same : g ≡ f = cc in
-        ap (λ (k : ℕ). given_of s k (frame_at s k).ready) same ∙ given-is s f t first
-        ∙ ap (λ (l : List ℕ). (Some (f, t), record (popped s f) { queue = l; current = Some f })) queue_is
-    go None [] current_is queue_is turn = cc
-    go None (g ∷ queue) current_is queue_is turn =
-        let same : g ≡ f = cc in
-        ap (λ (k : ℕ). given_of (record s { queue = queue }) k (frame_at s k).ready) same ∙ given-is (record s { queue = queue }) f t first
-
-module _ (s t : FrameTable) (rest : t ≡ rested s) where
-  -- the frame whose turn is next is busy
-  pub next-busy : (f : ℕ) → AreBusy t t.queue → turn_of t.current t.queue ≡ Some f → is_busy t f ≡ true
-  next-busy f busy turn = turn-busy t f (λ g is. ap (λ (u : FrameTable). is_busy u g) rest
-      ∙ rested-busy s g (sym (ap (λ (u : FrameTable). u.current) rest) ∙ is)) busy turn
-
-  -- and the next thread is the one that it gives
-  pub next-thread-is : (f thread : ℕ) → turn_of t.current t.queue ≡ Some f → slice_get (frame_at t f).ready 0 ≡ Some thread
-      → next_thread s ≡ (Some (f, thread), record (popped t f) { queue = queue_behind t.current t.queue; current = Some f })
-  next-thread-is f thread turn first = ap (λ (u : FrameTable). next_of u u.current u.queue) (sym rest) ∙ next-is t f thread turn first
+    current-same : (free : List ℕ) → (with_new s free (new_frame slots threads counts)).current ≡ s.current
+    current-same [] = refl
+    current-same (f ∷ free) = refl

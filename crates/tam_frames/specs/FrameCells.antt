@@ -1,16 +1,27 @@
 -- Frames on linked cells: each frame lies in cells of its own, one behind the other.
 -- The rule in words: docs/THREADS.md, "Frames".
-use Rattle.std.specs.Prelude.{ℕ, ◌≡◌, ◌+◌, ◌-◌, ◌*◌, ◌/◌, ◌<◌, ◌≤◌, ◌^◌, List, map, length, slice_index, count_by, max}
+use Rattle.std.specs.Prelude.{ℕ, ◌≡◌, ◌+◌, ◌-◌, ◌*◌, ◌<◌, ◌≤◌, ◌^◌, Bool, not, nat_eq, List, map, length, slice_index, count_by, max}
 use Rattle.std.specs.List.{range_with_len, AllByRecursion}
+use Rattle.linked_cells.specs.declared.line.Line.{Line}
 use Rattle.linked_cells.specs.Cells.{LinkedCell, CellRow, cell_at}
-use Rattle.linked_cells.specs.Lists.{behind}
+use Rattle.linked_cells.specs.Lists.{behind, IsApart}
+use Rattle.linked_cells.specs.Lines.{IsLine, numbers_of}
 use Rattle.frame_tables.specs.FrameTables.{Frame}
 use Rattle.tam_frames.specs.HeldFrames.{HeldFrames, is_left}
 
--- the cells, for how many frames there is room, and how many slots and threads each has
+-- the cells, the lines of the frames that wait and of those that are free, how many have begun, for how many there is room, and how many slots and threads each
+-- has
 pub record CellFrames : Type 0 where
   pub table : CellRow
+  pub queue : Line
+  pub free : Line
+  pub begun : ℕ
   pub room : ℕ
+  pub slots : ℕ
+  pub threads : ℕ
+
+-- how many slots and threads each frame has
+pub record FrameSize : Type 0 where
   pub slots : ℕ
   pub threads : ℕ
 
@@ -24,6 +35,10 @@ frame_width slots threads = 2 + threads + slots
 abbrev pub start_of : ℕ → ℕ → ℕ → ℕ
 start_of slots threads f = 2 + f * frame_width slots threads
 
+-- its second header
+abbrev pub second_header : ℕ → ℕ → ℕ → ℕ
+second_header slots threads f = start_of slots threads f + 1
+
 -- the cell of a thread of the frame from cell a on
 abbrev pub thread_cell : ℕ → ℕ → ℕ
 thread_cell a t = a + 2 + t
@@ -31,10 +46,6 @@ thread_cell a t = a + 2 + t
 -- the cell of a slot
 abbrev pub slot_cell : ℕ → ℕ → ℕ → ℕ
 slot_cell threads a s = a + 2 + threads + s
-
--- how many frames have begun
-abbrev pub begun_count : CellFrames → ℕ
-begun_count k = (length k.table.cells - 2) / frame_width k.slots k.threads
 
 -- ---- what cells hold
 
@@ -51,10 +62,17 @@ frame_in cells slots threads a = record {
   ready = map (λ i. i - (a + 2)) (behind cells a (cell_at cells a).second);
 }
 
--- the frames that have begun
+-- a mark is set
+abbrev pub is_set : ℕ → Bool
+is_set n = not (nat_eq n 0)
+
+-- the frames that have begun: the second header of each has whether it is live, and its number
 abbrev pub held_frames : CellFrames → HeldFrames
 held_frames k = record {
-  frames = listed (begun_count k) (λ f. frame_in k.table.cells k.slots k.threads (start_of k.slots k.threads f));
+  frames = listed k.begun (λ f. frame_in k.table.cells k.slots k.threads (start_of k.slots k.threads f));
+  lives = listed k.begun (λ f. is_set (cell_at k.table.cells (second_header k.slots k.threads f)).first);
+  queue = numbers_of k.table.cells k.queue;
+  free = numbers_of k.table.cells k.free;
   room = k.room;
   slots = k.slots;
   threads = k.threads;
@@ -79,15 +97,40 @@ pub record HoldsFrame (cells : List LinkedCell) (slots threads a : ℕ) (h : Fra
   pub ready : AllByRecursion (IsReady h.counts threads) h.ready
   pub fit : length h.ready + count_by is_left h.counts ≤ threads
 
--- the cells are those of the frames that have begun, each holds its frame, and there is room for all
+-- where frames have so many slots and threads and so many have begun
+pub record Shape : Type 0 where
+  pub slots : ℕ
+  pub threads : ℕ
+  pub begun : ℕ
+
+-- a line has these frames: it leads from its root through their second headers
+pub record HoldsLine (cells : List LinkedCell) (shape : Shape) (line : Line) (root : ℕ) (numbers : List ℕ) : Type 0 where
+  pub root_is : line.root ≡ root
+  pub is : IsLine cells line (map (second_header shape.slots shape.threads) numbers)
+  pub begun : AllByRecursion (λ f. f < shape.begun) numbers
+
+-- both lines have their frames, none is in both, and the second header of each frame has its number
+pub record HoldLines (cells : List LinkedCell) (shape : Shape) (queue free : Line) (waiting idle : List ℕ) : Type 0 where
+  pub queue_held : HoldsLine cells shape queue 0 waiting
+  pub free_held : HoldsLine cells shape free 1 idle
+  pub apart : AllByRecursion (λ f. IsApart f idle) waiting
+  pub numbered : (f : ℕ) → f < shape.begun → (cell_at cells (second_header shape.slots shape.threads f)).second ≡ f
+
+-- the shape of frames
+abbrev pub shape_of : CellFrames → Shape
+shape_of k = record { slots = k.slots; threads = k.threads; begun = k.begun }
+
+-- the cells are those of the frames that have begun, each holds its frame, the lines go through them, and there is room for all
 pub record AreHeld (k : CellFrames) : Type 0 where
-  pub there : length k.table.cells ≡ start_of k.slots k.threads (begun_count k)
+  pub there : length k.table.cells ≡ start_of k.slots k.threads k.begun
   pub room_there : k.table.room ≡ start_of k.slots k.threads k.room
-  pub few : begun_count k ≤ k.room
+  pub few : k.begun ≤ k.room
   pub small : start_of k.slots k.threads k.room < 2 ^ 64
   pub narrow : k.threads < 2 ^ 32
-  pub each : (f : ℕ) → f < begun_count k
+  pub countable : k.room < 2 ^ 32
+  pub each : (f : ℕ) → f < k.begun
       → HoldsFrame k.table.cells k.slots k.threads (start_of k.slots k.threads f) (frame_in k.table.cells k.slots k.threads (start_of k.slots k.threads f))
+  pub lines : HoldLines k.table.cells (shape_of k) k.queue k.free (numbers_of k.table.cells k.queue) (numbers_of k.table.cells k.free)
 
 -- ---- cells that are put one behind the other
 

@@ -1,9 +1,8 @@
 -- A table of frames with the room that is reserved for it, and what is kept of each table.
 -- The rule in words: docs/THREADS.md, "Frames".
-use Rattle.std.specs.Prelude.{ℕ, zero, suc, ◌≡◌, ◌<◌, Bool, true, false, List, [], ◌∷◌, Some, slice_get, slice_set, slice_index, length}
+use Rattle.std.specs.Prelude.{ℕ, zero, suc, ◌≡◌, ◌<◌, Bool, true, false, List, [], ◌∷◌, Option, Some, slice_get, slice_set, slice_index, length}
 use Rattle.std.specs.Prelude.{drop}
 use Rattle.frame_tables.specs.FrameTables.{Frame, FrameTable, no_frames, frame_at, changed}
-use Rattle.tam_frames.specs.Turns.{Turns}
 
 -- a table, how many of its frames may be live, and how many slots and threads each has
 pub record StoredFrames : Type 0 where
@@ -19,6 +18,14 @@ with_table s table = record s { table = table }
 -- the same room with other frames
 abbrev pub with_frames : StoredFrames → FrameTable → StoredFrames
 with_frames s table = record s { table = record s.table { frames = table.frames } }
+
+-- the same room with another queue
+abbrev pub with_queue : StoredFrames → List ℕ → StoredFrames
+with_queue s queue = record s { table = record s.table { queue = queue } }
+
+-- the same room with another current frame, or none
+abbrev pub with_current : StoredFrames → Option ℕ → StoredFrames
+with_current s current = record s { table = record s.table { current = current } }
 
 -- before the first frame
 abbrev pub none_taken : ℕ → ℕ → ℕ → StoredFrames
@@ -56,7 +63,3 @@ frame_popped h = record h { ready = drop 1 h.ready }
 -- the same of frame f
 abbrev pub popped : FrameTable → ℕ → FrameTable
 popped s f = changed s f frame_popped
-
--- stored frames with their turns
-abbrev pub with_turns : StoredFrames → Turns → StoredFrames
-with_turns s turns = record s { table = record s.table { queue = turns.queue; current = turns.current } }

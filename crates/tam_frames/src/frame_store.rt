@@ -1,8 +1,9 @@
-// The storage of frames, and their numbers.
-ghost use Rattle.std.specs.Prelude.{◌≡◌, ◌<◌, ◌≤◌, ◌↔◌, false, length, slice_get, Some, IfOk, OnOk, OnErr, IsErr, IsTrue};
-ghost use Rattle.frame_tables.specs.FrameTables.{frame_at, is_live, live_count, slot_in, with_slot, count_in, spent, spend_answer, lowered};
-ghost use Rattle.frame_tables.specs.FrameTables.{next_number, taken, given_back};
-ghost use Rattle.tam_frames.specs.StoredFrames.{with_table, with_frames, none_taken, is_busy, popped};
+// The storage of frames, their numbers, and the queue of those that wait.
+ghost use Rattle.std.specs.Prelude.{◌≡◌, ◌<◌, ◌≤◌, ◌↔◌, ◌∷◌, ◌++◌, [], false, length, drop, slice_get, Some, IfOk, IfSome, OnOk, OnErr, IsErr, IsTrue};
+ghost use Rattle.frame_tables.specs.FrameTables.{frame_at, is_live, is_queued, live_count, slot_in, with_slot, count_in, spent, spend_answer, lowered};
+ghost use Rattle.frame_tables.specs.FrameTables.{next_number, next_number_of, taken, given_back};
+ghost use Rattle.tam_frames.specs.HeldFrames.{wakes};
+ghost use Rattle.tam_frames.specs.StoredFrames.{with_table, with_frames, with_queue, none_taken, has_any, is_busy, popped};
 
 use crate::frame_cells::FrameCells;
 use crate::{Full, Spend};
@@ -15,41 +16,20 @@ use tam_edge::NoMemory;
 pub(crate) struct FrameStore {
     /// One for each number that was used.
     frames: FrameCells,
-    /// Whether a frame is live, by its number; a number that was never used has no place here.
-    lives: Vec<bool>,
-    /// The free numbers, the one that was given back last behind all others.
-    free: Vec<u32>,
     /// How many frames are live.
     used: u32,
     count: u32,
 }
 
 impl Model for FrameStore {
-    ghost use Rattle.std.specs.Prelude.{reverse};
     ghost use Rattle.tam_frames.specs.StoredFrames.{StoredFrames};
-    ghost use Rattle.tam_frames.specs.Kept.{IsStored, numbered, shown};
+    ghost use Rattle.tam_frames.specs.Kept.{IsStored, stored};
 
     ghost Value = { StoredFrames };
 
-    ghost view = { λ s. record {
-      table = numbered (shown s.lives.items s.frames.frames) (reverse s.free.items);
-      count = s.count;
-      slots = s.frames.slots;
-      threads = s.frames.threads;
-    } };
+    ghost view = { λ s. stored (record { held = s.frames; used = s.used; count = s.count }) };
 
-    ghost invariant = { λ s. IsStored (record {
-      rows = s.frames.frames;
-      rows_room = s.frames.room;
-      lives = s.lives.items;
-      free = reverse s.free.items;
-      used = s.used;
-      slots = s.frames.slots;
-      threads = s.frames.threads;
-      count = s.count;
-      lives_room = s.lives.cap;
-      free_room = s.free.cap;
-    }) };
+    ghost invariant = { λ s. IsStored (record { held = s.frames; used = s.used; count = s.count }) };
 }
 
 impl FrameStore {
@@ -63,26 +43,27 @@ impl FrameStore {
     {
         Ok(FrameStore {
             frames: FrameCells::new(alloc, count, slots, threads)?,
-            lives: Vec::with_capacity(alloc, count as usize)?,
-            free: Vec::with_capacity(alloc, count as usize)?,
             used: 0,
             count,
         })
     }
 
     /// How many frames are live.
+    #[inline]
     pub(crate) fn used(&self) -> u32
         ensures value { result ≡ live_count self.now.table }
     {
         self.used
     }
 
+    #[inline]
     pub(crate) fn is_live(&self, f: u32) -> bool
         ensures value { result ≡ is_live self.now.table f }
     {
-        (f as usize) < self.lives.len() && self.lives[f as usize]
+        self.frames.is_live(f)
     }
 
+    #[inline]
     pub(crate) fn get(&self, f: u32, slot: u32) -> u32
         requires live { IsTrue (is_live self.now.table f) }
         requires slot { slot < self.now.slots }
@@ -91,6 +72,7 @@ impl FrameStore {
         self.frames.get(f, slot)
     }
 
+    #[inline]
     pub(crate) fn owed(&self, f: u32) -> u32
         requires live { IsTrue (is_live self.now.table f) }
         ensures value { result ≡ (frame_at self.now.table f).owed }
@@ -98,6 +80,7 @@ impl FrameStore {
         self.frames.owed(f)
     }
 
+    #[inline]
     pub(crate) fn is_busy(&self, f: u32) -> bool
         requires live { IsTrue (is_live self.now.table f) }
         ensures value { result ≡ is_busy self.now.table f }
@@ -120,31 +103,22 @@ impl FrameStore {
             return Err(Full);
         }
         self.used += 1;
-        match self.free.pop() {
-            Some(number) => {
-                self.frames.begin(number, counts);
-                self.lives[number as usize] = true;
-                Ok(number)
-            }
-            None => {
-                let number = self.lives.len() as u32;
-                self.frames.begin(number, counts);
-                self.lives.push_reserved(true);
-                Ok(number)
-            }
-        }
+        let number = next_number(&mut self.frames);
+        self.frames.begin(number, counts);
+        Ok(number)
     }
 
-    /// The frame's number is free again.
+    /// The frame's number is free again. It doesn't wait.
     pub(crate) fn give(&mut self, f: u32)
         requires live { IsTrue (is_live self.old.table f) }
+        requires apart { is_queued self.old.table.queue f ≡ false }
         ensures value { self.new ≡ with_table self.old (given_back self.old.table f) }
     {
         self.used -= 1;
-        self.lives[f as usize] = false;
-        self.free.push_reserved(f);
+        self.frames.free(f);
     }
 
+    #[inline]
     pub(crate) fn set(&mut self, f: u32, slot: u32, word: u32)
         requires live { IsTrue (is_live self.old.table f) }
         requires slot { slot < self.old.slots }
@@ -153,6 +127,7 @@ impl FrameStore {
         self.frames.set(f, slot, word);
     }
 
+    #[inline]
     pub(crate) fn lower(&mut self, f: u32, n: u32)
         requires live { IsTrue (is_live self.old.table f) }
         ensures value { self.new ≡ with_table self.old (lowered self.old.table f n) }
@@ -160,28 +135,66 @@ impl FrameStore {
         self.frames.lower(f, n);
     }
 
-    /// What spending does to the frame. To the queue it does nothing.
-    pub(crate) fn spend(&mut self, f: u32, thread: u32) -> Spend
+    /// What spending does to the frame, and whether a thread of it is ready then where none was before. To the queue it does nothing.
+    #[inline]
+    pub(crate) fn spend(&mut self, f: u32, thread: u32) -> (Spend, bool)
         requires live { IsTrue (is_live self.old.table f) }
         requires thread { thread < self.old.threads }
-        ensures answer { result ≡ spend_answer (count_in self.old.table f thread) }
+        ensures answer { result.0 ≡ spend_answer (count_in self.old.table f thread) }
+        ensures woken { result.1 ≡ wakes (frame_at self.old.table f) thread }
         ensures value { self.new ≡ with_frames self.old (spent self.old.table f thread) }
         ensures counted { slice_get (frame_at self.old.table f).counts thread ≡ Some (count_in self.old.table f thread) }
-        ensures numbered { f < self.old.count }
     {
         self.frames.spend(f, thread)
     }
 
     /// The thread of the frame that became ready last.
-    pub(crate) fn pop(&mut self, f: u32) -> u32
-        requires busy { IsTrue (is_busy self.old.table f) }
-        ensures value { slice_get (frame_at self.old.table f).ready 0 ≡ Some result }
+    #[inline]
+    pub(crate) fn pop(&mut self, f: u32) -> Option<u32>
+        requires live { IsTrue (is_live self.old.table f) }
+        ensures value { result ≡ slice_get (frame_at self.old.table f).ready 0 }
         ensures rest { self.new ≡ with_table self.old (popped self.old.table f) }
-        ensures known { result < self.old.threads }
+        ensures known { IfSome result (λ thread. thread < self.old.threads) }
     {
-        match self.frames.pop(f) {
-            Some(thread) => thread,
-            None => unreachable!(),
-        }
+        self.frames.pop(f)
+    }
+
+    /// Whether a frame waits.
+    #[inline]
+    pub(crate) fn has_waiting(&self) -> bool
+        ensures value { result ≡ has_any self.now.table.queue }
+    {
+        self.frames.has_waiting()
+    }
+
+    /// The frame waits for its turn, behind all others.
+    #[inline]
+    pub(crate) fn wait(&mut self, f: u32)
+        requires live { IsTrue (is_live self.old.table f) }
+        requires apart { is_queued self.old.table.queue f ≡ false }
+        ensures value { self.new ≡ with_queue self.old (self.old.table.queue ++ f ∷ []) }
+    {
+        self.frames.wait(f);
+    }
+
+    /// The frame that waits for the longest time. It waits no more.
+    #[inline]
+    pub(crate) fn next_waiting(&mut self) -> Option<u32>
+        ensures value { result ≡ slice_get self.old.table.queue 0 }
+        ensures rest { self.new ≡ with_queue self.old (drop 1 self.old.table.queue) }
+    {
+        self.frames.next_waiting()
+    }
+}
+
+// The number that became free last, which is free no more, or else the least that was never used.
+#[inline]
+fn next_number(frames: &mut FrameCells) -> u32
+    ensures value { result ≡ next_number_of frames.old.free (length frames.old.frames) }
+    ensures rest { frames.new ≡ record frames.old { free = drop 1 frames.old.free } }
+{
+    match frames.next_free() {
+        Some(number) => number,
+        None => frames.begun(),
     }
 }

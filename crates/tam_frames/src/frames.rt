@@ -1,11 +1,10 @@
 // The frames of all activations.
-ghost use Rattle.std.specs.Prelude.{◌≡◌, ◌<◌, ◌≤◌, ◌↔◌, false, length, Some, slice_get, IfOk, IfSome, IfNone, OnOk, OnErr, IsErr, IsTrue};
+ghost use Rattle.std.specs.Prelude.{◌≡◌, ◌<◌, ◌≤◌, ◌↔◌, false, length, Some, None, slice_get, IfOk, IfSome, IfNone, OnOk, OnErr, IsErr, IsTrue};
 ghost use Rattle.frame_tables.specs.FrameTables.{frame_at, is_live, live_count, slot_in, with_slot, count_in, spent, spend_answer, lowered};
-ghost use Rattle.frame_tables.specs.FrameTables.{next_number, taken, given_back, is_ready, next_thread, rested};
+ghost use Rattle.frame_tables.specs.FrameTables.{next_number, taken, given_back, current_of, is_ready, next_thread, rested};
 ghost use Rattle.tam_frames.specs.StoredFrames.{with_table, none_taken, is_busy};
 
 use crate::frame_store::FrameStore;
-use crate::turn_queue::TurnQueue;
 use crate::{Full, Spend};
 use std::alloc::Global;
 use std::marker::Model;
@@ -17,18 +16,19 @@ use tam_edge::NoMemory;
 #[derive(Drop)]
 pub struct Frames {
     store: FrameStore,
-    turns: TurnQueue,
+    /// The frame whose turn it is. It doesn't wait, and each other frame waits where a thread of it is ready.
+    current: Option<u32>,
 }
 
 impl Model for Frames {
-    ghost use Rattle.tam_frames.specs.StoredFrames.{StoredFrames, with_turns};
+    ghost use Rattle.tam_frames.specs.StoredFrames.{StoredFrames, with_current};
     ghost use Rattle.tam_frames.specs.Kept.{AreInTurn};
 
     ghost Value = { StoredFrames };
 
-    ghost view = { λ s. with_turns s.store s.turns };
+    ghost view = { λ s. with_current s.store s.current };
 
-    ghost invariant = { λ s. AreInTurn (with_turns s.store s.turns) s.turns.room };
+    ghost invariant = { λ s. AreInTurn (with_current s.store s.current).table };
 }
 
 impl Frames {
@@ -38,17 +38,19 @@ impl Frames {
     {
         Ok(Frames {
             store: FrameStore::new(alloc, count, slots, threads)?,
-            turns: TurnQueue::new(alloc, count)?,
+            current: None,
         })
     }
 
     /// How many frames are live.
+    #[inline]
     pub fn used(&self) -> u32
         ensures value { result ≡ live_count self.now.table }
     {
         self.store.used()
     }
 
+    #[inline]
     pub fn live(&self, f: u32) -> bool
         ensures value { result ≡ is_live self.now.table f }
     {
@@ -76,9 +78,12 @@ impl Frames {
         ensures value { self.new ≡ with_table self.old (given_back self.old.table f) }
     {
         self.store.give(f);
-        self.turns.leave(f);
+        if self.current == Some(f) {
+            self.current = None;
+        }
     }
 
+    #[inline]
     pub fn get(&self, f: u32, slot: u32) -> u32
         requires live { IsTrue (is_live self.now.table f) }
         requires slot { slot < self.now.slots }
@@ -87,6 +92,7 @@ impl Frames {
         self.store.get(f, slot)
     }
 
+    #[inline]
     pub fn set(&mut self, f: u32, slot: u32, word: u32)
         requires live { IsTrue (is_live self.old.table f) }
         requires slot { slot < self.old.slots }
@@ -96,6 +102,7 @@ impl Frames {
     }
 
     /// Spends one of the thread's entry count.
+    #[inline]
     pub fn spend(&mut self, f: u32, thread: u32) -> Spend
         requires live { IsTrue (is_live self.old.table f) }
         requires thread { thread < self.old.threads }
@@ -103,14 +110,15 @@ impl Frames {
         ensures value { self.new ≡ with_table self.old (spent self.old.table f thread) }
         ensures counted { slice_get (frame_at self.old.table f).counts thread ≡ Some (count_in self.old.table f thread) }
     {
-        let answer = self.store.spend(f, thread);
-        if answer == Spend::Enabled {
-            self.turns.join(f);
+        let (answer, woken) = self.store.spend(f, thread);
+        if woken && self.current != Some(f) {
+            self.store.wait(f);
         }
         answer
     }
 
     /// How many threads of the frame have neither run nor been skipped.
+    #[inline]
     pub fn owed(&self, f: u32) -> u32
         requires live { IsTrue (is_live self.now.table f) }
         ensures value { result ≡ (frame_at self.now.table f).owed }
@@ -119,6 +127,7 @@ impl Frames {
     }
 
     /// The frame owes so many threads less, and never less than none.
+    #[inline]
     pub fn lower(&mut self, f: u32, n: u32)
         requires live { IsTrue (is_live self.old.table f) }
         ensures value { self.new ≡ with_table self.old (lowered self.old.table f n) }
@@ -127,6 +136,7 @@ impl Frames {
     }
 
     /// Whether a thread of the frame is ready.
+    #[inline]
     pub fn busy(&self, f: u32) -> bool
         requires live { IsTrue (is_live self.now.table f) }
         ensures value { result ≡ is_busy self.now.table f }
@@ -135,36 +145,56 @@ impl Frames {
     }
 
     /// Whether a thread of any frame is ready.
+    #[inline]
     pub fn ready(&self) -> bool
         ensures value { result ≡ is_ready self.now.table }
     {
-        match self.turns.current() {
+        match self.current {
             Some(f) if self.store.is_busy(f) => true,
-            _ => self.turns.has_waiting(),
+            _ => self.store.has_waiting(),
         }
     }
 
     /// The frame whose turn it is, current from now on, with its thread that became ready last.
+    #[inline]
     pub fn next_thread(&mut self) -> Option<(u32, u32)>
         ensures value { result ≡ (next_thread self.old.table).0 }
         ensures after { self.new ≡ with_table self.old (next_thread self.old.table).1 }
         ensures known { IfSome result (λ next. IsTrue (is_live self.new.table next.0) × (next.1 < self.old.threads)) }
         ensures none { IfNone result (is_ready self.old.table ≡ false) }
     {
-        self.rest();
-        let f = self.turns.begin()?;
-        let thread = self.store.pop(f);
-        Some((f, thread))
+        let Some(f) = self.current else {
+            return self.begin();
+        };
+        match self.store.pop(f) {
+            Some(thread) => Some((f, thread)),
+            None => self.begin(),
+        }
     }
 
     /// Ends the current frame's turn, where none of its threads is ready.
+    #[inline]
     pub fn rest(&mut self)
         ensures value { self.new ≡ with_table self.old (rested self.old.table) }
     {
-        if let Some(f) = self.turns.current()
+        if let Some(f) = self.current
             && !self.store.is_busy(f)
         {
-            self.turns.end();
+            self.current = None;
         }
+    }
+
+    // The next thread where none of the current frame is ready: the turn of the frame that waits for the longest time begins.
+    fn begin(&mut self) -> Option<(u32, u32)>
+        requires idle { current_of self.old.table self.old.table.current ≡ None }
+        ensures value { result ≡ (next_thread self.old.table).0 }
+        ensures after { self.new ≡ with_table self.old (next_thread self.old.table).1 }
+        ensures known { IfSome result (λ next. IsTrue (is_live self.new.table next.0) × (next.1 < self.old.threads)) }
+        ensures none { IfNone result (is_ready self.old.table ≡ false) }
+    {
+        self.current = self.store.next_waiting();
+        let f = self.current?;
+        let thread = self.store.pop(f)?;
+        Some((f, thread))
     }
 }

@@ -14,18 +14,18 @@ pub words-requires : goal.words-requires
 words-requires c =
     let s = c.self.inside in
     let is : IsIn (kept s) c.args.self.now c.args.f = is-in c.self.invariant c.self.view_is c.args.f c.requires.there in
-    let cell_is : c.slot_cell.result ≡ slot_cell s.threads (start_of s.slots s.threads c.args.f) c.args.slot =
+    let cell_is : c.slot_cell.result ≡ slot_cell s.shape.threads (start_of s.shape.slots s.shape.threads c.args.f) c.args.slot =
     c.slot_cell.ensures.value ∙ ap₂ (λ (t a : ℕ). slot_cell t a c.args.slot) is.threads_is is.start_is in
-    let slot : c.args.slot < s.slots = omega (arith, c.requires.slot, is.slots_is) in
+    let slot : c.args.slot < s.shape.slots = omega (arith, c.requires.slot, is.slots_is) in
     record { there = omega (arith, cell_is, slot, is.inside) }
 
 pub returns : goal.returns
 returns c =
     let s = c.self.inside in
     let is : IsIn (kept s) c.args.self.now c.args.f = is-in c.self.invariant c.self.view_is c.args.f c.requires.there in
-    let cell_is : c.slot_cell.result ≡ slot_cell s.threads (start_of s.slots s.threads c.args.f) c.args.slot =
+    let cell_is : c.slot_cell.result ≡ slot_cell s.shape.threads (start_of s.shape.slots s.shape.threads c.args.f) c.args.slot =
     c.slot_cell.ensures.value ∙ ap₂ (λ (t a : ℕ). slot_cell t a c.args.slot) is.threads_is is.start_is in
-    let slot : c.args.slot < s.slots = omega (arith, c.requires.slot, is.slots_is) in
+    let slot : c.args.slot < s.shape.slots = omega (arith, c.requires.slot, is.slots_is) in
     record {
       value = c.words.ensures.first ∙ ap (λ (i : ℕ). (cell_at s.table.cells i).first) cell_is ∙ is.holds.slot c.args.slot slot;
     }

@@ -13,7 +13,7 @@ becomes : (c : goal.After-set_words) → BecomesFrame (kept c.self.inside) c.set
 becomes c =
     let s = c.self.inside in
     let is : IsIn (kept s) c.args.self.now c.args.f = is-in c.self.invariant c.self.view_is c.args.f c.requires.there in
-    let start_is : c.start-start.result ≡ start_of s.slots s.threads c.args.f = c.start-start.ensures.value ∙ is.start_is in
+    let start_is : c.start-start.result ≡ start_of s.shape.slots s.shape.threads c.args.f = c.start-start.ensures.value ∙ is.start_is in
     let h : Frame = held_at c.args.self.now.frames c.args.f in
     let owed : c.words-owed.result.0 ≡ h.owed =
     c.words-owed.ensures.first ∙ ap (λ (i : ℕ). (cell_at s.table.cells i).first) start_is ∙ is.holds.owed in
@@ -22,7 +22,7 @@ becomes c =
     let u : ℕ = c.words-owed.result.1 in
     let less : c.saturating_sub.result ≡ h.owed - c.args.n = c.saturating_sub.ensures ∙ ap (λ (n : ℕ). n - c.args.n) owed in
     record {
-      cells = with_words s.table.cells (start_of s.slots s.threads c.args.f) (h.owed - c.args.n) u;
+      cells = with_words s.table.cells (start_of s.shape.slots s.shape.threads c.args.f) (h.owed - c.args.n) u;
       table_is = c.set_words.ensures.value ∙ ap₂ (λ (i o : ℕ). record s.table { cells = with_words s.table.cells i o u }) start_is less;
       changes = changes-owed is.holds is.inside (h.owed - c.args.n) u;
       holds = holds-owed is.holds is.inside (h.owed - c.args.n) u ready;
@@ -38,14 +38,14 @@ pub words-owed-requires : goal.words-owed-requires
 words-owed-requires c =
     let s = c.self.inside in
     let is : IsIn (kept s) c.args.self.now c.args.f = is-in c.self.invariant c.self.view_is c.args.f c.requires.there in
-    let start_is : c.start-start.result ≡ start_of s.slots s.threads c.args.f = c.start-start.ensures.value ∙ is.start_is in
+    let start_is : c.start-start.result ≡ start_of s.shape.slots s.shape.threads c.args.f = c.start-start.ensures.value ∙ is.start_is in
     record { there = omega (arith, start_is, is.inside) }
 
 pub set_words-requires : goal.set_words-requires
 set_words-requires c =
     let s = c.self.inside in
     let is : IsIn (kept s) c.args.self.now c.args.f = is-in c.self.invariant c.self.view_is c.args.f c.requires.there in
-    let start_is : c.start-start.result ≡ start_of s.slots s.threads c.args.f = c.start-start.ensures.value ∙ is.start_is in
+    let start_is : c.start-start.result ≡ start_of s.shape.slots s.shape.threads c.args.f = c.start-start.ensures.value ∙ is.start_is in
     record { there = omega (arith, start_is, is.inside) }
 
 pub invariant_of-self : goal.invariant_of-self

@@ -16,13 +16,13 @@ becomes : (c : goal.After-set_words) → BecomesFrame (kept c.self.inside) c.set
 becomes c =
     let s = c.self.inside in
     let is : IsIn (kept s) c.args.self.now c.args.f = is-in c.self.invariant c.self.view_is c.args.f c.requires.there in
-    let start_is : c.start-start.result ≡ start_of s.slots s.threads c.args.f = c.start-start.ensures.value ∙ is.start_is in
+    let start_is : c.start-start.result ≡ start_of s.shape.slots s.shape.threads c.args.f = c.start-start.ensures.value ∙ is.start_is in
     let h : Frame = held_at c.args.self.now.frames c.args.f in
     let ready : c.words-owed.result.1 ≡ length h.ready =
     c.words-owed.ensures.second ∙ ap (λ (i : ℕ). (cell_at s.table.cells i).second) start_is ∙ is.holds.ready_count in
     let owed : c.words-owed.result.0 ≡ h.owed =
     c.words-owed.ensures.first ∙ ap (λ (i : ℕ). (cell_at s.table.cells i).first) start_is ∙ is.holds.owed in
-    let a : ℕ = start_of s.slots s.threads c.args.f in
+    let a : ℕ = start_of s.shape.slots s.shape.threads c.args.f in
     let t : ℕ = slice_index h.ready 0 in
     let ts : List ℕ = drop 1 h.ready in
     let ready_is : h.ready ≡ t ∷ ts = first-and-rest h.ready (omega (arith, ready, c.if-ready-eq0.false)) in
@@ -49,14 +49,14 @@ pub words-owed-requires : goal.words-owed-requires
 words-owed-requires c =
     let s = c.self.inside in
     let is : IsIn (kept s) c.args.self.now c.args.f = is-in c.self.invariant c.self.view_is c.args.f c.requires.there in
-    let start_is : c.start-start.result ≡ start_of s.slots s.threads c.args.f = c.start-start.ensures.value ∙ is.start_is in
+    let start_is : c.start-start.result ≡ start_of s.shape.slots s.shape.threads c.args.f = c.start-start.ensures.value ∙ is.start_is in
     record { there = omega (arith, start_is, is.inside) }
 
 pub returns-then-ready-eq0-clause-value : goal.returns-then-ready-eq0-clause-value
 returns-then-ready-eq0-clause-value c =
     let s = c.self.inside in
     let is : IsIn (kept s) c.args.self.now c.args.f = is-in c.self.invariant c.self.view_is c.args.f c.requires.there in
-    let start_is : c.start-start.result ≡ start_of s.slots s.threads c.args.f = c.start-start.ensures.value ∙ is.start_is in
+    let start_is : c.start-start.result ≡ start_of s.shape.slots s.shape.threads c.args.f = c.start-start.ensures.value ∙ is.start_is in
     let h : Frame = held_at c.args.self.now.frames c.args.f in
     let ready : c.words-owed.result.1 ≡ length h.ready =
     c.words-owed.ensures.second ∙ ap (λ (i : ℕ). (cell_at s.table.cells i).second) start_is ∙ is.holds.ready_count in
@@ -67,7 +67,7 @@ pub returns-then-ready-eq0-clause-rest : goal.returns-then-ready-eq0-clause-rest
 returns-then-ready-eq0-clause-rest c =
     let s = c.self.inside in
     let is : IsIn (kept s) c.args.self.now c.args.f = is-in c.self.invariant c.self.view_is c.args.f c.requires.there in
-    let start_is : c.start-start.result ≡ start_of s.slots s.threads c.args.f = c.start-start.ensures.value ∙ is.start_is in
+    let start_is : c.start-start.result ≡ start_of s.shape.slots s.shape.threads c.args.f = c.start-start.ensures.value ∙ is.start_is in
     let h : Frame = held_at c.args.self.now.frames c.args.f in
     let ready : c.words-owed.result.1 ≡ length h.ready =
     c.words-owed.ensures.second ∙ ap (λ (i : ℕ). (cell_at s.table.cells i).second) start_is ∙ is.holds.ready_count in
@@ -83,13 +83,13 @@ pub returns-clause-value : goal.returns-clause-value
 returns-clause-value c =
     let s = c.self.inside in
     let is : IsIn (kept s) c.args.self.now c.args.f = is-in c.self.invariant c.self.view_is c.args.f c.requires.there in
-    let start_is : c.start-start.result ≡ start_of s.slots s.threads c.args.f = c.start-start.ensures.value ∙ is.start_is in
+    let start_is : c.start-start.result ≡ start_of s.shape.slots s.shape.threads c.args.f = c.start-start.ensures.value ∙ is.start_is in
     let h : Frame = held_at c.args.self.now.frames c.args.f in
     let ready : c.words-owed.result.1 ≡ length h.ready =
     c.words-owed.ensures.second ∙ ap (λ (i : ℕ). (cell_at s.table.cells i).second) start_is ∙ is.holds.ready_count in
     let owed : c.words-owed.result.0 ≡ h.owed =
     c.words-owed.ensures.first ∙ ap (λ (i : ℕ). (cell_at s.table.cells i).first) start_is ∙ is.holds.owed in
-    let a : ℕ = start_of s.slots s.threads c.args.f in
+    let a : ℕ = start_of s.shape.slots s.shape.threads c.args.f in
     let t : ℕ = slice_index h.ready 0 in
     let ts : List ℕ = drop 1 h.ready in
     let ready_is : h.ready ≡ t ∷ ts = first-and-rest h.ready (omega (arith, ready, c.if-ready-eq0.false)) in

@@ -1,67 +1,28 @@
-use Rattle.std.proofs.Common.{◌-◌, refl, reverse}
+use Rattle.std.proofs.Common.{◌∙◌, ◌-◌, sym, ap, subst, refl}
 use Rattle.frame_tables.specs.FrameTables.{Frame}
-use Rattle.tam_frames.specs.HeldFrames.{held_at}
-use Rattle.tam_frames.specs.Kept.{Storage}
+use Rattle.tam_frames.specs.HeldFrames.{HeldFrames, held_at}
+use Rattle.tam_frames.specs.Kept.{IsStored, stored}
 use Rattle.tam_frames.proofs.SizeLemmas.{sized-lowered}
-use Rattle.tam_frames.proofs.ChangeLemmas.{row-within, sized, stored-with, view-with}
+use Rattle.tam_frames.proofs.ChangeLemmas.{storage, row-within, sized, stored-with, view-with}
 use Rattle.tam_frames.proofs.frame_store.FrameStore.lower.Goals as goal
 
 pub lower-requires : goal.lower-requires
-lower-requires c =
-    let r = c.self.inside in
-    let st : Storage = record {
-      rows = r.frames.frames;
-      rows_room = r.frames.room;
-      lives = r.lives.items;
-      free = reverse r.free.items;
-      used = r.used;
-      slots = r.frames.slots;
-      threads = r.frames.threads;
-      count = r.count;
-      lives_room = r.lives.cap;
-      free_room = r.free.cap;
-    } in
-    let f = c.args.f in
-    record { there = row-within st c.self.invariant c.self.view_is f c.requires.live }
+lower-requires c = record { there = row-within c.self.invariant c.self.view_is c.args.f c.requires.live }
 
 pub invariant_of-self : goal.invariant_of-self
 invariant_of-self c =
-    let r = c.self.inside in
-    let st : Storage = record {
-      rows = r.frames.frames;
-      rows_room = r.frames.room;
-      lives = r.lives.items;
-      free = reverse r.free.items;
-      used = r.used;
-      slots = r.frames.slots;
-      threads = r.frames.threads;
-      count = r.count;
-      lives_room = r.lives.cap;
-      free_room = r.free.cap;
-    } in
-    let f = c.args.f in
-    let new : Frame = record (held_at r.frames.frames f) { owed = (held_at r.frames.frames f).owed - c.args.n } in
-    stored-with st c.self.invariant c.self.view_is f c.requires.live c.lower.new.self new c.lower.ensures.value
-    (sized-lowered r.frames.slots r.frames.threads (held_at r.frames.frames f) (sized st c.self.invariant c.self.view_is f c.requires.live) c.args.n)
+    let st = storage c.self.inside in
+    let h : Frame = held_at st.held.frames c.args.f in
+    subst (λ (now : HeldFrames). IsStored (record st { held = now })) (sym c.lower.ensures.value)
+    (stored-with c.self.invariant c.self.view_is c.args.f c.requires.live (record h { owed = h.owed - c.args.n })
+    (sized-lowered st.held.slots st.held.threads h (sized c.self.invariant c.self.view_is c.args.f c.requires.live) c.args.n))
 
 pub returns : goal.returns
 returns c =
-    let r = c.self.inside in
-    let st : Storage = record {
-      rows = r.frames.frames;
-      rows_room = r.frames.room;
-      lives = r.lives.items;
-      free = reverse r.free.items;
-      used = r.used;
-      slots = r.frames.slots;
-      threads = r.frames.threads;
-      count = r.count;
-      lives_room = r.lives.cap;
-      free_room = r.free.cap;
-    } in
-    let f = c.args.f in
-    let new : Frame = record (held_at r.frames.frames f) { owed = (held_at r.frames.frames f).owed - c.args.n } in
+    let st = storage c.self.inside in
+    let h : Frame = held_at st.held.frames c.args.f in
     record {
-      value = view-with st c.self.invariant c.self.view_is f c.requires.live c.lower.new.self new c.lower.ensures.value
-          (λ (h : Frame). record h { owed = h.owed - c.args.n }) refl;
+      value = ap (λ (now : HeldFrames). stored (record st { held = now })) c.lower.ensures.value
+          ∙ view-with c.self.invariant c.self.view_is c.args.f c.requires.live (record h { owed = h.owed - c.args.n })
+          (λ (k : Frame). record k { owed = k.owed - c.args.n }) refl;
     }

@@ -1,41 +1,12 @@
-use Rattle.std.proofs.Common.{◌∙◌, ap, reverse}
+use Rattle.std.proofs.Common.{◌∙◌, ap}
 use Rattle.frame_tables.specs.FrameTables.{Frame}
-use Rattle.tam_frames.specs.Kept.{Storage}
 use Rattle.tam_frames.proofs.ChangeLemmas.{row-within, held}
 use Rattle.tam_frames.proofs.frame_store.FrameStore.owed.Goals as goal
 
 pub owed-requires : goal.owed-requires
-owed-requires c =
-    let r = c.self.inside in
-    let st : Storage = record {
-      rows = r.frames.frames;
-      rows_room = r.frames.room;
-      lives = r.lives.items;
-      free = reverse r.free.items;
-      used = r.used;
-      slots = r.frames.slots;
-      threads = r.frames.threads;
-      count = r.count;
-      lives_room = r.lives.cap;
-      free_room = r.free.cap;
-    } in
-    let f = c.args.f in
-    record { there = row-within st c.self.invariant c.self.view_is f c.requires.live }
+owed-requires c = record { there = row-within c.self.invariant c.self.view_is c.args.f c.requires.live }
 
 pub returns : goal.returns
-returns c =
-    let r = c.self.inside in
-    let st : Storage = record {
-      rows = r.frames.frames;
-      rows_room = r.frames.room;
-      lives = r.lives.items;
-      free = reverse r.free.items;
-      used = r.used;
-      slots = r.frames.slots;
-      threads = r.frames.threads;
-      count = r.count;
-      lives_room = r.lives.cap;
-      free_room = r.free.cap;
-    } in
-    let f = c.args.f in
-    record { value = c.owed.ensures.value ∙ ap (λ (h : Frame). h.owed) (held st c.self.invariant c.self.view_is f c.requires.live) }
+returns c = record {
+  value = c.owed.ensures.value ∙ ap (λ (h : Frame). h.owed) (held c.self.invariant c.self.view_is c.args.f c.requires.live);
+}

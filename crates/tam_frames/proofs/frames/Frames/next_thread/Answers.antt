@@ -1,71 +1,71 @@
-use Rattle.std.proofs.Common.{◌≡◌, ◌∙◌, ap, ap₂, sym, subst, true, false, Some, Option, ℕ, List, arith}
-use Rattle.frame_tables.specs.FrameTables.{FrameTable, is_live, is_queued, rested}
-use Rattle.tam_frames.specs.StoredFrames.{StoredFrames, with_turns, with_table, is_busy, popped, frame_popped}
-use Rattle.tam_frames.specs.Turns.{Turns, begun, turn_of, queue_behind}
+use Rattle.std.proofs.Common.{◌∙◌, sym, ap, subst, refl, ℕ, Option, arith}
+use Rattle.frame_tables.specs.FrameTables.{FrameTable, is_live, is_current, current_of, next_thread}
+use Rattle.tam_frames.specs.StoredFrames.{StoredFrames, with_table, with_current, frame_popped}
 use Rattle.tam_frames.specs.Kept.{AreInTurn}
+use Rattle.tam_frames.proofs.QueueLemmas.{eq-number}
 use Rattle.tam_frames.proofs.LiveLemmas.{live-changed}
-use Rattle.tam_frames.proofs.TableLemmas.{busy-live}
-use Rattle.tam_frames.proofs.TurnLemmas.{next-busy, next-thread-is, turns-next}
+use Rattle.tam_frames.proofs.TurnLemmas.{turns-current}
+use Rattle.tam_frames.proofs.NextLemmas.{next-current, idle-current, popped-none}
 use Rattle.tam_frames.proofs.frames.Frames.next_thread.Goals as goal
 
-pub pop-thread-requires : goal.pop-thread-requires
-pop-thread-requires c =
+pub invariant_of-self : goal.invariant_of-self
+invariant_of-self c =
     let s = c.self.inside in
-    let table : FrameTable = (with_turns s.store s.turns).table in
-    let rest : table ≡ rested c.args.self.now.table = ap (λ (v : StoredFrames). v.table) (c.self.view_is ∙ c.rest.ensures.value) in
-    let turn : turn_of s.turns.current s.turns.queue ≡ Some c.in_ok-f.f = sym c.begin.ensures.value ∙ c.in_ok-f.was in
-    record { busy = next-busy c.args.self.now.table table rest c.in_ok-f.f c.self.invariant.busy turn }
+    let f = c.in-Some.f in
+    let current = ap (λ (o : Option ℕ). is_current o f) c.in-Some.is ∙ eq-number f f refl in
+    subst (λ (store : StoredFrames). AreInTurn (with_current store s.current).table) (sym c.pop.ensures.rest)
+    (turns-current c.self.invariant f current frame_popped)
 
-pub invariant_of-self-2 : goal.invariant_of-self-2
-invariant_of-self-2 c =
+pub invariant_of-self-in-None : goal.invariant_of-self-in-None
+invariant_of-self-in-None c =
     let s = c.self.inside in
-    let f = c.in_ok-f.f in
-    let table : FrameTable = (with_turns s.store s.turns).table in
-    let rest : table ≡ rested c.args.self.now.table = ap (λ (v : StoredFrames). v.table) (c.self.view_is ∙ c.rest.ensures.value) in
-    let turn : turn_of s.turns.current s.turns.queue ≡ Some f = sym c.begin.ensures.value ∙ c.in_ok-f.was in
-    let busy : is_busy s.store.table f ≡ true = next-busy c.args.self.now.table table rest f c.self.invariant.busy turn in
-    let gone : is_queued (queue_behind s.turns.current s.turns.queue) f ≡ false =
-    ap (λ (turns : Turns). is_queued turns.queue f) (sym c.begin.ensures.after) ∙ c.in_ok-f.ensures.gone in
-    subst (λ (turns : Turns). AreInTurn (with_turns c.pop-thread.new.self turns) turns.room) (sym c.begin.ensures.after)
-    (subst (λ (store : StoredFrames). AreInTurn (with_turns store (begun s.turns)) s.turns.room) (sym c.pop-thread.ensures.rest)
-    (turns-next s.store s.turns s.turns.room c.self.invariant f turn gone busy))
+    let none = popped-none s.store.table c.in-Some.f (sym c.pop.ensures.value ∙ c.in-None.is) in
+    subst (λ (store : StoredFrames). AreInTurn (with_current store s.current).table)
+    (sym (c.pop.ensures.rest ∙ ap (λ (t : FrameTable). with_table s.store t) none)) c.self.invariant
 
-pub returns-clause-value : goal.returns-clause-value
-returns-clause-value c =
+pub begin-requires-in-None : goal.begin-requires-in-None
+begin-requires-in-None c =
     let s = c.self.inside in
-    let f = c.in_ok-f.f in
-    let table : FrameTable = (with_turns s.store s.turns).table in
-    let rest : table ≡ rested c.args.self.now.table = ap (λ (v : StoredFrames). v.table) (c.self.view_is ∙ c.rest.ensures.value) in
-    let turn : turn_of s.turns.current s.turns.queue ≡ Some f = sym c.begin.ensures.value ∙ c.in_ok-f.was in
-    ap (λ (p : Option (ℕ × ℕ) × FrameTable). p.0) (sym (next-thread-is c.args.self.now.table table rest f c.pop-thread.result turn c.pop-thread.ensures.value))
+    let f = c.in-Some.f in
+    let none = sym c.pop.ensures.value ∙ c.in-None.is in
+    let kept = c.pop.ensures.rest ∙ ap (λ (t : FrameTable). with_table s.store t) (popped-none s.store.table f none) in
+    record {
+      idle = ap (λ (store : StoredFrames). current_of (with_current store s.current).table s.current) kept
+          ∙ idle-current (with_current s.store s.current).table f c.in-Some.is none;
+    }
 
-pub returns-clause-after : goal.returns-clause-after
-returns-clause-after c =
+pub returns-in-Some-pop-clause-after : goal.returns-in-Some-pop-clause-after
+returns-in-Some-pop-clause-after c =
     let s = c.self.inside in
-    let f = c.in_ok-f.f in
-    let now : StoredFrames = c.args.self.now in
-    let table : FrameTable = (with_turns s.store s.turns).table in
-    let is : with_turns s.store s.turns ≡ with_table now (rested now.table) = c.self.view_is ∙ c.rest.ensures.value in
-    let rest : table ≡ rested now.table = ap (λ (v : StoredFrames). v.table) is in
-    let turn : turn_of s.turns.current s.turns.queue ≡ Some f = sym c.begin.ensures.value ∙ c.in_ok-f.was in
-    let behind : List ℕ = queue_behind s.turns.current s.turns.queue in
-    let next : FrameTable = record (popped table f) { queue = behind; current = Some f } in
-    let given = next-thread-is now.table table rest f c.pop-thread.result turn c.pop-thread.ensures.value in
-    ap₂ (λ (store : StoredFrames) (turns : Turns). with_turns store turns) c.pop-thread.ensures.rest c.begin.ensures.after
-    ∙ ap (λ (o : Option ℕ). with_table (with_turns s.store s.turns) (record (popped table f) { queue = behind; current = o })) turn
-    ∙ ap (λ (v : StoredFrames). with_table v next) is
-    ∙ ap (λ (p : Option (ℕ × ℕ) × FrameTable). with_table now p.1) (sym given)
+    let v = with_current s.store s.current in
+    let next = next-current v.table c.in-Some.f c.in-Some-pop.thread c.in-Some.is (sym c.pop.ensures.value ∙ c.in-Some-pop.is) in
+    ap (λ (store : StoredFrames). with_current store s.current) c.pop.ensures.rest
+    ∙ ap (λ (p : Option (ℕ × ℕ) × FrameTable). with_table v p.1) (sym next)
+    ∙ ap (λ (now : StoredFrames). with_table now (next_thread now.table).1) c.self.view_is
 
-pub returns-clause-known : goal.returns-clause-known
-returns-clause-known c =
+pub returns-in-Some-pop-clause-known : goal.returns-in-Some-pop-clause-known
+returns-in-Some-pop-clause-known c =
     let s = c.self.inside in
-    let f = c.in_ok-f.f in
-    let table : FrameTable = (with_turns s.store s.turns).table in
-    let is : with_turns s.store s.turns ≡ with_table c.args.self.now (rested c.args.self.now.table) = c.self.view_is ∙ c.rest.ensures.value in
-    let rest : table ≡ rested c.args.self.now.table = ap (λ (v : StoredFrames). v.table) is in
-    let turn : turn_of s.turns.current s.turns.queue ≡ Some f = sym c.begin.ensures.value ∙ c.in_ok-f.was in
-    let busy : is_busy s.store.table f ≡ true = next-busy c.args.self.now.table table rest f c.self.invariant.busy turn in
-    let threads : s.store.threads ≡ c.args.self.now.threads = ap (λ (v : StoredFrames). v.threads) is in (
-      ap (λ (v : StoredFrames). is_live v.table f) c.pop-thread.ensures.rest ∙ live-changed s.store.table f f frame_popped ∙ busy-live s.store.table f busy,
-      omega (arith, threads, c.pop-thread.ensures.known),
+    let f = c.in-Some.f in
+    let current = ap (λ (o : Option ℕ). is_current o f) c.in-Some.is ∙ eq-number f f refl in (
+      ap (λ (store : StoredFrames). is_live store.table f) c.pop.ensures.rest ∙ live-changed s.store.table f f frame_popped
+          ∙ c.self.invariant.live f current,
+      omega (arith, c.in-Some-pop.ensures.known, ap (λ (v : StoredFrames). v.threads) c.self.view_is),
     )
+
+pub returns-in-None-clause-value : goal.returns-in-None-clause-value
+returns-in-None-clause-value c =
+    let s = c.self.inside in
+    let none = popped-none s.store.table c.in-Some.f (sym c.pop.ensures.value ∙ c.in-None.is) in
+    let kept = c.pop.ensures.rest ∙ ap (λ (t : FrameTable). with_table s.store t) none in
+    c.begin-in-None.ensures.value
+    ∙ ap (λ (v : StoredFrames). (next_thread v.table).0) (ap (λ (store : StoredFrames). with_current store s.current) kept ∙ c.self.view_is)
+
+pub returns-in-None-clause-after : goal.returns-in-None-clause-after
+returns-in-None-clause-after c =
+    let s = c.self.inside in
+    let none = popped-none s.store.table c.in-Some.f (sym c.pop.ensures.value ∙ c.in-None.is) in
+    let kept = c.pop.ensures.rest ∙ ap (λ (t : FrameTable). with_table s.store t) none in
+    c.begin-in-None.ensures.after
+    ∙ ap (λ (v : StoredFrames). with_table v (next_thread v.table).1)
+    (ap (λ (store : StoredFrames). with_current store s.current) kept ∙ c.self.view_is)

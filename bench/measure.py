@@ -87,6 +87,8 @@ def measure_runs(program):
             measure(program, mode, f"fib of {number}", example("fib.dg"), [f"--args={number}", *room])
         for count in (50, 100, 200):
             measure(program, mode, f"a ladder of {count}", texts.ladder(count), ["--args=0", *room])
+    for depth in (4_096, 8_192, 16_384):
+        measure(program, "tl0", f"{depth} frames of a wide code", texts.deep(7), [f"--args={depth - 2}", *room])
 
 
 def measure_words(program):

@@ -7,9 +7,8 @@ use crate::left::Left;
 use crate::standing::Standing;
 use std::alloc::AllocError;
 use std::collections::VecDeque;
-use tam_graph::Graph;
 use tam_msgs::Pending;
-use tam_world::{NodeAt, World};
+use tam_world::{NodeAt, Program, World};
 
 /// What changes in a run.
 #[derive(Drop)]
@@ -25,15 +24,15 @@ pub(crate) struct Machine {
 
 // Those of the nodes that may fire become ready.
 pub(crate) fn ready_among(
-    graph: &Graph,
+    program: &Program<'_>,
     world: &World,
     ready: &mut VecDeque<NodeAt>,
     i: u32,
     nodes: &[u32],
 ) -> Result<(), AllocError>
-    ensures ok { OnOk result (pairs_of ready.new.items ≡ pairs_of ready.old.items ++ map (λ x. (i, x)) (filter (is_enabled graph.now world.now i) nodes.now)) }
+    ensures ok { OnOk result (pairs_of ready.new.items ≡ pairs_of ready.old.items ++ map (λ x. (i, x)) (filter (is_enabled program.now world.now i) nodes.now)) }
 {
-    let standing = Standing::of(graph, world, i);
+    let standing = Standing::of(program, world, i);
     for node in nodes {
         if standing.is_enabled(*node) {
             ready.push_back(NodeAt {

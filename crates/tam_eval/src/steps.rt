@@ -10,14 +10,13 @@ ghost use Rattle.tam_eval.specs.Effects.{HasEffect};
 ghost use Rattle.tam_eval.specs.Waiting.{IsCovered, KeepsCounts, is_awaited};
 
 use crate::machine::{Machine, ready_among};
-use crate::standing::Standing;
 use std::alloc::AllocError;
 use std::collections::VecDeque;
 use tam_edge::NoMemory;
 use tam_graph::Graph;
 use tam_istr::Reader;
 use tam_msgs::{Message, Pending};
-use tam_world::nodes::nodes_of;
+use tam_world::nodes::{is_inlet, nodes_of};
 use tam_world::{Effect, NodeAt, Program, World};
 
 // A node gets a word, and those of its takers become ready that may fire now.
@@ -40,7 +39,7 @@ fn give_word(
     }
     let takers = program.takers(code, at.node);
     ready_among(
-        program.graph(),
+        program,
         &machine.world,
         &mut machine.ready,
         at.activation,
@@ -56,7 +55,10 @@ fn give_word(
 fn is_awaited(graph: &Graph, world: &World, at: NodeAt) -> bool
     ensures value { result ≡ is_awaited graph.now world.now at.activation at.node }
 {
-    Standing::of(graph, world, at.activation).is_awaited(at.node)
+    match nodes_of(graph, world.code_at(at.activation)).get(at.node as usize) {
+        Some(node) => is_inlet(node.kind) && world.has_entered(at.activation, node.block),
+        None => false,
+    }
 }
 
 // A block is entered, and those of its nodes become ready that may fire now.
@@ -78,13 +80,7 @@ fn enter_block(
         return Ok(());
     }
     let firers = program.firers(code, block);
-    ready_among(
-        program.graph(),
-        &machine.world,
-        &mut machine.ready,
-        i,
-        firers,
-    )?;
+    ready_among(program, &machine.world, &mut machine.ready, i, firers)?;
     let empty = empty_among(&machine.world, i, program.block_inlets(code, block));
     machine.left.more(i, firers.len() + empty);
     Ok(())

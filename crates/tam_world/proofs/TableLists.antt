@@ -14,6 +14,7 @@ use Rattle.tam_graph.specs.Graphs.{node_numbers}
 use Rattle.tam_world.specs.Takers.{firers_in, inlets_in}
 use Rattle.tam_world.specs.Sought.{is_keyed}
 use Rattle.tam_world.proofs.TableLemmas.{filter-last}
+use Rattle.tam_world.proofs.Needed.{needs-none, needs-all}
 
 -- the lists are those of the nodes below x
 pub record AreListsBelow (c : Code) (takers firers inlets : ℕ → List ℕ) (x : ℕ) : Type 0 where
@@ -108,5 +109,6 @@ tables-all g tables below_all k = go (nat_lt k (length g.codes)) refl
           inlets = λ y. refl;
           block_inlets = λ b. refl;
           starters = refl;
+          needs = needs-all no_code [] (needs-none no_code);
           few = omega arith;
         })

@@ -5,6 +5,8 @@ use Rattle.std.specs.declared.alloc.Global.{Global}
 use Rattle.tam_graph.specs.Graphs.{Graph, Code, code_of}
 use Rattle.tam_world.specs.Takers.{takers_of, firers_in, inlets_in, starters_of}
 use Rattle.tam_world.specs.Sought.{inlets_of}
+use Rattle.tam_world.specs.Needs.{AreNeedsOf}
+use Rattle.tam_world.specs.declared.need.Need.{Need}
 use Rattle.tam_world.specs.declared.table.Table.{Table}
 
 -- the items of a vector, or none
@@ -41,6 +43,11 @@ abbrev pub starters_kept : Option Table → List ℕ
 starters_kept None = []
 starters_kept (Some t) = t.starters.items
 
+-- what each node waits for before it may fire
+abbrev pub needs_kept : Option Table → List Need
+needs_kept None = []
+needs_kept (Some t) = t.needs.items
+
 -- the table is that of a code, which is as short as a text's
 pub record IsTableOf (c : Code) (t : Option Table) : Type 0 where
   pub takers : (y : ℕ) → takers_kept t y ≡ takers_of c y
@@ -48,6 +55,7 @@ pub record IsTableOf (c : Code) (t : Option Table) : Type 0 where
   pub inlets : (y : ℕ) → inlets_kept t y ≡ inlets_of c y
   pub block_inlets : (b : ℕ) → block_inlets_kept t b ≡ inlets_in c b
   pub starters : starters_kept t ≡ starters_of c
+  pub needs : AreNeedsOf c (needs_kept t)
   pub few : length c.nodes ≤ 1024
 
 -- each code of the graph has its table

@@ -3,8 +3,10 @@ ghost use Rattle.std.specs.Prelude.{◌≡◌, ◌≤◌, length, IfOk};
 ghost use Rattle.tam_graph.specs.Graphs.{code_of};
 ghost use Rattle.tam_world.specs.Takers.{takers_of, firers_in, inlets_in, starters_of};
 ghost use Rattle.tam_world.specs.Sought.{inlets_of};
+ghost use Rattle.tam_world.specs.Needs.{AreNeedsOf};
 ghost use Rattle.tam_world.specs.Tables.{AreTables, takers_kept};
 
+use crate::Need;
 use crate::table::{Table, list_at};
 use std::alloc::{AllocError, Global};
 use std::marker::Model;
@@ -91,6 +93,16 @@ impl<'g> Program<'g> {
     {
         match self.tables.get(code as usize) {
             Some(table) => &table.starters,
+            None => &[],
+        }
+    }
+
+    /// For each node of a code what it waits for before it may fire; those past the end never do.
+    pub fn needs(&self, code: u32) -> &[Need]
+        ensures value { AreNeedsOf (code_of self.now code) result.now }
+    {
+        match self.tables.get(code as usize) {
+            Some(table) => &table.needs,
             None => &[],
         }
     }

@@ -6,6 +6,7 @@ ghost use Rattle.tam_world.specs.Takers.{is_none};
 ghost use Rattle.tam_world.specs.Sought.{is_keyed};
 ghost use Rattle.tam_world.specs.Tables.{listed, IsTableOf};
 
+use crate::Need;
 use crate::nodes::{fires, is_inlet, kind_at, nodes_of, test_of};
 use std::alloc::{AllocError, Global};
 use tam_graph::{Graph, Kind, Node};
@@ -23,6 +24,8 @@ pub(crate) struct Table {
     pub(crate) inlets: Vec<Vec<u32>>,
     /// Those that may fire as soon as an activation begins.
     pub(crate) starters: Vec<u32>,
+    /// For each node what it waits for before it may fire.
+    pub(crate) needs: Vec<Need>,
 }
 
 impl Table {
@@ -37,6 +40,7 @@ impl Table {
         let mut firers = Vec::new(alloc);
         let mut inlets = Vec::new(alloc);
         let mut block_inlets = Vec::new(alloc);
+        let mut needs = Vec::with_capacity(alloc, nodes.len())?;
         for (x, node) in nodes.iter().enumerate() {
             add_node(
                 alloc,
@@ -49,6 +53,7 @@ impl Table {
             )?;
             add_inlet(alloc, &mut inlets, node.block, node.kind, x as u32)?;
             add_block_inlet(alloc, &mut block_inlets, node.block, node.kind, x as u32)?;
+            needs.push(Need::of(graph, code, node.block, node.kind))?;
         }
         let starters = starters_among(alloc, graph, code, list_at(&firers, 0))?;
         Ok(Table {
@@ -57,6 +62,7 @@ impl Table {
             block_inlets,
             inlets,
             starters,
+            needs,
         })
     }
 }

@@ -5,5 +5,5 @@ use Rattle.tam_eval.proofs.machine.ready_among.Given as goal
 
 abbrev pub invariant-loop-node : goal.invariant-loop-node
 invariant-loop-node l =
-    pairs_of l.ready.items ++ map (λ x. (l.i, x)) (filter (is_enabled l.graph l.world l.i) (drop l.node-index l.nodes))
-    ≡ pairs_of l.fn.ready.items ++ map (λ x. (l.i, x)) (filter (is_enabled l.graph l.world l.i) l.nodes)
+    pairs_of l.ready.items ++ map (λ x. (l.i, x)) (filter (is_enabled l.fn.program l.world l.i) (drop l.node-index l.nodes))
+    ≡ pairs_of l.fn.ready.items ++ map (λ x. (l.i, x)) (filter (is_enabled l.fn.program l.world l.i) l.nodes)

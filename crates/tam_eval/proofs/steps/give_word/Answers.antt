@@ -45,11 +45,11 @@ less-requires c =
     let none : has_word s.world i y ≡ false = sym c.has_word-had.ensures.value ∙ c.if-had.false in
     let takers = takers-are g s i y c.code_at-code.result c.takers-takers.result.now none c.code_at-code.ensures.value
     c.takers-takers.ensures.value in
-    let awaited : is_awaited g s.world i y ≡ true = sym (awaited-then g c.graph-2.result.now s.world c.give.new.self i y c.args.word
-    c.graph-2.ensures.value c.in_ok-give.ensures.ok) ∙ sym c.is_awaited.ensures.value ∙ c.if-is_awaited.true in
+    let awaited : is_awaited g s.world i y ≡ true = sym (awaited-then g c.graph.result.now s.world c.give.new.self i y c.args.word
+    c.graph.ensures.value c.in_ok-give.ensures.ok) ∙ sym c.is_awaited.ensures.value ∙ c.if-is_awaited.true in
     let is : record s { world = c.give.new.self; ready = pairs_of c.ready_among.new.ready.items } ≡ effected g s (changes (got s.world i y c.args.word)) =
     state-got g s i y c.args.word c.give.new.self (pairs_of c.ready_among.new.ready.items) c.in_ok-give.ensures.ok
-    (rw (c.graph.ensures.value, takers) at c.in_ok-ready_among.ensures.ok) in
+    (rw takers at c.in_ok-ready_among.ensures.ok) in
     record {
       some = some-awaited g s (record s { world = c.give.new.self; ready = pairs_of c.ready_among.new.ready.items }) i y c.args.word is
           c.args.machine.now.left none awaited (c.requires.covered.least i);
@@ -65,7 +65,7 @@ returns-then-is_awaited-clause-value c =
     let takers = takers-are g s i y c.code_at-code.result c.takers-takers.result.now none c.code_at-code.ensures.value
     c.takers-takers.ensures.value in
     state-got g s i y c.args.word c.give.new.self (pairs_of c.ready_among.new.ready.items) c.in_ok-give.ensures.ok
-    (rw (c.graph.ensures.value, takers) at c.in_ok-ready_among.ensures.ok)
+    (rw takers at c.in_ok-ready_among.ensures.ok)
 
 pub returns-else-is_awaited-clause-value : goal.returns-else-is_awaited-clause-value
 returns-else-is_awaited-clause-value c =
@@ -77,7 +77,7 @@ returns-else-is_awaited-clause-value c =
     let takers = takers-are g s i y c.code_at-code.result c.takers-takers.result.now none c.code_at-code.ensures.value
     c.takers-takers.ensures.value in
     state-got g s i y c.args.word c.give.new.self (pairs_of c.ready_among.new.ready.items) c.in_ok-give.ensures.ok
-    (rw (c.graph.ensures.value, takers) at c.in_ok-ready_among.ensures.ok)
+    (rw takers at c.in_ok-ready_among.ensures.ok)
 
 pub returns-then-is_awaited-clause-counts : goal.returns-then-is_awaited-clause-counts
 returns-then-is_awaited-clause-counts c =
@@ -88,12 +88,12 @@ returns-then-is_awaited-clause-counts c =
     let none : has_word s.world i y ≡ false = sym c.has_word-had.ensures.value ∙ c.if-had.false in
     let takers = takers-are g s i y c.code_at-code.result c.takers-takers.result.now none c.code_at-code.ensures.value
     c.takers-takers.ensures.value in
-    let awaited : is_awaited g s.world i y ≡ true = sym (awaited-then g c.graph-2.result.now s.world c.give.new.self i y c.args.word
-    c.graph-2.ensures.value c.in_ok-give.ensures.ok) ∙ sym c.is_awaited.ensures.value ∙ c.if-is_awaited.true in
+    let awaited : is_awaited g s.world i y ≡ true = sym (awaited-then g c.graph.result.now s.world c.give.new.self i y c.args.word
+    c.graph.ensures.value c.in_ok-give.ensures.ok) ∙ sym c.is_awaited.ensures.value ∙ c.if-is_awaited.true in
     let t : EvalState = record s { world = c.give.new.self; ready = pairs_of c.ready_among.new.ready.items } in
     let is : t ≡ effected g s (changes (got s.world i y c.args.word)) =
     state-got g s i y c.args.word c.give.new.self (pairs_of c.ready_among.new.ready.items) c.in_ok-give.ensures.ok
-    (rw (c.graph.ensures.value, takers) at c.in_ok-ready_among.ensures.ok) in
+    (rw takers at c.in_ok-ready_among.ensures.ok) in
     let l = c.args.machine.now.left in
     rw c.less.ensures.value (keeps-less g s t i y c.args.word is l none awaited
     (some-awaited g s t i y c.args.word is l none awaited (c.requires.covered.least i)))
@@ -107,10 +107,10 @@ returns-else-is_awaited-clause-counts c =
     let none : has_word s.world i y ≡ false = sym c.has_word-had.ensures.value ∙ c.if-had.false in
     let takers = takers-are g s i y c.code_at-code.result c.takers-takers.result.now none c.code_at-code.ensures.value
     c.takers-takers.ensures.value in
-    let unawaited : is_awaited g s.world i y ≡ false = sym (awaited-then g c.graph-2.result.now s.world c.give.new.self i y c.args.word
-    c.graph-2.ensures.value c.in_ok-give.ensures.ok) ∙ sym c.is_awaited.ensures.value ∙ c.if-is_awaited.false in
+    let unawaited : is_awaited g s.world i y ≡ false = sym (awaited-then g c.graph.result.now s.world c.give.new.self i y c.args.word
+    c.graph.ensures.value c.in_ok-give.ensures.ok) ∙ sym c.is_awaited.ensures.value ∙ c.if-is_awaited.false in
     let t : EvalState = record s { world = c.give.new.self; ready = pairs_of c.ready_among.new.ready.items } in
     let is : t ≡ effected g s (changes (got s.world i y c.args.word)) =
     state-got g s i y c.args.word c.give.new.self (pairs_of c.ready_among.new.ready.items) c.in_ok-give.ensures.ok
-    (rw (c.graph.ensures.value, takers) at c.in_ok-ready_among.ensures.ok) in
+    (rw takers at c.in_ok-ready_among.ensures.ok) in
     keeps-got g s t i y c.args.word is c.args.machine.now.left none unawaited

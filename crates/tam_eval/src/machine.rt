@@ -23,6 +23,7 @@ pub(crate) struct Machine {
 }
 
 // Those of the nodes that may fire become ready.
+#[inline(always)]
 pub(crate) fn ready_among(
     program: &Program<'_>,
     world: &World,

@@ -52,10 +52,10 @@ impl<'a> Standing<'a> {
                 second,
                 third,
             } => {
-                self.has_entered(block)
-                    && self.has_word(first)
+                self.has_word(first)
                     && self.has_word(second)
                     && self.has_word(third)
+                    && self.has_entered(block)
             }
         }
     }

@@ -20,6 +20,7 @@ use tam_world::nodes::{is_inlet, nodes_of};
 use tam_world::{Effect, NodeAt, Program, World};
 
 // A node gets a word, and those of its takers become ready that may fire now.
+#[inline(always)]
 fn give_word(
     program: &Program<'_>,
     machine: &mut Machine,
@@ -37,6 +38,7 @@ fn give_word(
     if had {
         return Ok(());
     }
+    let awaited = is_awaited(program.graph(), &machine.world, at);
     let takers = program.takers(code, at.node);
     ready_among(
         program,
@@ -45,7 +47,7 @@ fn give_word(
         at.activation,
         takers,
     )?;
-    if is_awaited(program.graph(), &machine.world, at) {
+    if awaited {
         machine.left.less(at.activation);
     }
     Ok(())
@@ -187,6 +189,7 @@ pub(crate) fn begin(
 }
 
 // What a firing or a delivery says is done.
+#[inline(always)]
 pub(crate) fn apply(
     program: &Program<'_>,
     machine: &mut Machine,

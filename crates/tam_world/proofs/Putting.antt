@@ -1,5 +1,5 @@
 -- Elements put at places of lists.
-use Rattle.std.proofs.Common.{◌≡◌, ℕ, zero, suc, ◌+◌, ◌-◌, List, [], ◌∷◌, ◌++◌, length, replicate, slice_set, refl, ap, arith}
+use Rattle.std.proofs.Common.{◌≡◌, ℕ, zero, suc, ◌+◌, ◌-◌, List, [], ◌∷◌, ◌++◌, length, replicate, slice_set, refl, ap, sym, ◌≤◌, ◌∙◌, append_assoc, length-append, arith}
 use Rattle.tam_word.specs.Lists.{put_at}
 
 -- nothing behind a list
@@ -20,3 +20,17 @@ set-padded blank (suc n) x (y ∷ ys) k many = ap (λ l. y ∷ l) (set-padded bl
 pub put_at-padded : {X : Type 0} (blank : X) (n : ℕ) (x : X) (xs : List X)
     → slice_set (xs ++ replicate (n + 1 - length xs) blank) n x ≡ put_at blank n x xs
 put_at-padded blank n x xs = set-padded blank n x xs (n + 1 - length xs) refl
+
+-- one more of several
+replicate-last : {X : Type 0} (k : ℕ) (blank : X) → replicate (suc k) blank ≡ replicate k blank ++ blank ∷ []
+replicate-last zero blank = refl
+replicate-last (suc k) blank = ap (λ l. blank ∷ l) (replicate-last k blank)
+
+-- a blank more behind a list and blanks
+pub blank-more : {X : Type 0} (blank : X) (xs ys : List X) → ys ≡ xs ++ replicate (length ys - length xs) blank → length xs ≤ length ys
+    → ys ++ blank ∷ [] ≡ xs ++ replicate (length (ys ++ blank ∷ []) - length xs) blank
+blank-more {X} blank xs ys is least =
+    let k : ℕ = length ys - length xs in
+    let more : length (ys ++ blank ∷ []) - length xs ≡ suc k = omega (arith, length-append ys (blank ∷ [])) in
+    ap (λ (l : List X). l ++ blank ∷ []) is ∙ append_assoc xs (replicate k blank) (blank ∷ [])
+    ∙ ap (λ (l : List X). xs ++ l) (sym (replicate-last k blank)) ∙ ap (λ (n : ℕ). xs ++ replicate n blank) (sym more)

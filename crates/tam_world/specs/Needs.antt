@@ -10,7 +10,7 @@ use Rattle.tam_world.specs.declared.need.Need.TheVariants.{Never, Block, Words}
 abbrev pub is_met : (ℕ → Bool) → (ℕ → Bool) → Need → Bool
 is_met entered fed Never = false
 is_met entered fed (Block b) = entered b
-is_met entered fed (Words b x y z) = entered b && (fed x && (fed y && fed z))
+is_met entered fed (Words b x y z) = (fed x && (fed y && fed z)) && entered b
 
 -- the need is that of a node of this kind in this block: it fires, and waits for its block and for the words of its operands
 pub record IsNeedOf (c : Code) (block : ℕ) (kind : Kind) (need : Need) : Type 0 where

@@ -96,5 +96,9 @@ fn lengthen<T: Copy>(list: &mut Vec<T>, blank: T, place: u32) -> Result<(), Allo
     if wanted <= list.len() {
         return Ok(());
     }
-    list.resize(wanted, blank)
+    list.reserve(wanted - list.len())?;
+    while list.len() < wanted {
+        list.push(blank)?;
+    }
+    Ok(())
 }

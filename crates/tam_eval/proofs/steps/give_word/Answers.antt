@@ -46,7 +46,7 @@ less-requires c =
     let takers = takers-are g s i y c.code_at-code.result c.takers-takers.result.now none c.code_at-code.ensures.value
     c.takers-takers.ensures.value in
     let awaited : is_awaited g s.world i y ≡ true = sym (awaited-then g c.graph.result.now s.world c.give.new.self i y c.args.word
-    c.graph.ensures.value c.in_ok-give.ensures.ok) ∙ sym c.is_awaited.ensures.value ∙ c.if-is_awaited.true in
+    c.graph.ensures.value c.in_ok-give.ensures.ok) ∙ sym c.is_awaited-awaited.ensures.value ∙ c.if-awaited.true in
     let is : record s { world = c.give.new.self; ready = pairs_of c.ready_among.new.ready.items } ≡ effected g s (changes (got s.world i y c.args.word)) =
     state-got g s i y c.args.word c.give.new.self (pairs_of c.ready_among.new.ready.items) c.in_ok-give.ensures.ok
     (rw takers at c.in_ok-ready_among.ensures.ok) in
@@ -55,8 +55,8 @@ less-requires c =
           c.args.machine.now.left none awaited (c.requires.covered.least i);
     }
 
-pub returns-then-is_awaited-clause-value : goal.returns-then-is_awaited-clause-value
-returns-then-is_awaited-clause-value c =
+pub returns-then-awaited-clause-value : goal.returns-then-awaited-clause-value
+returns-then-awaited-clause-value c =
     let g = c.args.program.now in
     let s = state_of c.args.machine.now in
     let i = c.args.at.activation in
@@ -67,8 +67,8 @@ returns-then-is_awaited-clause-value c =
     state-got g s i y c.args.word c.give.new.self (pairs_of c.ready_among.new.ready.items) c.in_ok-give.ensures.ok
     (rw takers at c.in_ok-ready_among.ensures.ok)
 
-pub returns-else-is_awaited-clause-value : goal.returns-else-is_awaited-clause-value
-returns-else-is_awaited-clause-value c =
+pub returns-else-awaited-clause-value : goal.returns-else-awaited-clause-value
+returns-else-awaited-clause-value c =
     let g = c.args.program.now in
     let s = state_of c.args.machine.now in
     let i = c.args.at.activation in
@@ -79,8 +79,8 @@ returns-else-is_awaited-clause-value c =
     state-got g s i y c.args.word c.give.new.self (pairs_of c.ready_among.new.ready.items) c.in_ok-give.ensures.ok
     (rw takers at c.in_ok-ready_among.ensures.ok)
 
-pub returns-then-is_awaited-clause-counts : goal.returns-then-is_awaited-clause-counts
-returns-then-is_awaited-clause-counts c =
+pub returns-then-awaited-clause-counts : goal.returns-then-awaited-clause-counts
+returns-then-awaited-clause-counts c =
     let g = c.args.program.now in
     let s = state_of c.args.machine.now in
     let i = c.args.at.activation in
@@ -89,7 +89,7 @@ returns-then-is_awaited-clause-counts c =
     let takers = takers-are g s i y c.code_at-code.result c.takers-takers.result.now none c.code_at-code.ensures.value
     c.takers-takers.ensures.value in
     let awaited : is_awaited g s.world i y ≡ true = sym (awaited-then g c.graph.result.now s.world c.give.new.self i y c.args.word
-    c.graph.ensures.value c.in_ok-give.ensures.ok) ∙ sym c.is_awaited.ensures.value ∙ c.if-is_awaited.true in
+    c.graph.ensures.value c.in_ok-give.ensures.ok) ∙ sym c.is_awaited-awaited.ensures.value ∙ c.if-awaited.true in
     let t : EvalState = record s { world = c.give.new.self; ready = pairs_of c.ready_among.new.ready.items } in
     let is : t ≡ effected g s (changes (got s.world i y c.args.word)) =
     state-got g s i y c.args.word c.give.new.self (pairs_of c.ready_among.new.ready.items) c.in_ok-give.ensures.ok
@@ -98,8 +98,8 @@ returns-then-is_awaited-clause-counts c =
     rw c.less.ensures.value (keeps-less g s t i y c.args.word is l none awaited
     (some-awaited g s t i y c.args.word is l none awaited (c.requires.covered.least i)))
 
-pub returns-else-is_awaited-clause-counts : goal.returns-else-is_awaited-clause-counts
-returns-else-is_awaited-clause-counts c =
+pub returns-else-awaited-clause-counts : goal.returns-else-awaited-clause-counts
+returns-else-awaited-clause-counts c =
     let g = c.args.program.now in
     let s = state_of c.args.machine.now in
     let i = c.args.at.activation in
@@ -108,7 +108,7 @@ returns-else-is_awaited-clause-counts c =
     let takers = takers-are g s i y c.code_at-code.result c.takers-takers.result.now none c.code_at-code.ensures.value
     c.takers-takers.ensures.value in
     let unawaited : is_awaited g s.world i y ≡ false = sym (awaited-then g c.graph.result.now s.world c.give.new.self i y c.args.word
-    c.graph.ensures.value c.in_ok-give.ensures.ok) ∙ sym c.is_awaited.ensures.value ∙ c.if-is_awaited.false in
+    c.graph.ensures.value c.in_ok-give.ensures.ok) ∙ sym c.is_awaited-awaited.ensures.value ∙ c.if-awaited.false in
     let t : EvalState = record s { world = c.give.new.self; ready = pairs_of c.ready_among.new.ready.items } in
     let is : t ≡ effected g s (changes (got s.world i y c.args.word)) =
     state-got g s i y c.args.word c.give.new.self (pairs_of c.ready_among.new.ready.items) c.in_ok-give.ensures.ok

@@ -33,11 +33,11 @@ fn give_word(
     ensures sizes { sizes_of machine.new ≡ sizes_of machine.old }
 {
     let had = machine.world.has_word(at.activation, at.node);
-    let code = machine.world.code_at(at.activation);
     machine.world.give(at, word)?;
     if had {
         return Ok(());
     }
+    let code = machine.world.code_at(at.activation);
     let awaited = is_awaited(program.graph(), &machine.world, at);
     let takers = program.takers(code, at.node);
     ready_among(
@@ -103,6 +103,7 @@ fn empty_among(world: &World, i: u32, nodes: &[u32]) -> usize
 }
 
 // A message is sent.
+#[inline(always)]
 fn send(pending: &mut Pending, message: Message) -> Result<(), NoMemory>
     ensures ok { OnOk result (pending.new.messages ≡ pending.old.messages ++ message ∷ []) }
 {

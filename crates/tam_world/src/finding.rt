@@ -44,7 +44,7 @@ fn key_of(sought: Sought) -> u32
 }
 
 /// The first node that is what is looked for.
-#[inline]
+#[inline(always)]
 pub fn find_node(program: &Program<'_>, code: u32, sought: Sought) -> Option<u32>
     ensures value { option_to_list result ≡ sought_in (code_of program.now code) sought }
 {

@@ -1,20 +1,23 @@
 use Rattle.std.proofs.Common.{◌≡◌, ◌∙◌, sym, ap, ℕ, List, true, false}
-use Rattle.tam_graph.specs.Graphs.{Graph, code_of}
-use Rattle.tam_world.specs.Worlds.{World, activation_at, has_word, got, changes}
+use Rattle.tam_graph.specs.Graphs.{Graph, Code, code_of}
+use Rattle.tam_world.specs.Worlds.{World, activation_at, its_code, has_word, got, changes}
 use Rattle.tam_world.specs.Kept.{pairs_of}
 use Rattle.tam_world.specs.Takers.{takers_of, takers_now}
 use Rattle.tam_eval.specs.Machines.{EvalState, state_of}
 use Rattle.tam_eval.specs.Effects.{effected}
 use Rattle.tam_eval.specs.Waiting.{is_awaited}
 use Rattle.tam_eval.proofs.Stepping.{state-got, ready-had, takers-first}
+use Rattle.tam_eval.proofs.Accessors.{code-got}
 use Rattle.tam_eval.proofs.VerticesLeft.{awaited-got}
 use Rattle.tam_eval.proofs.KeepingCounts.{keeps-again, keeps-got, keeps-less, some-awaited}
 use Rattle.tam_eval.proofs.steps.give_word.Goals as goal
 
--- the list that the code takes is that of the takers
-takers-are : (g : Graph) (s : EvalState) (i y k : ℕ) (takers : List ℕ) → has_word s.world i y ≡ false
-    → k ≡ (activation_at s.world i).code → takers ≡ takers_of (code_of g k) y → takers ≡ takers_now g s.world i y
-takers-are g s i y k takers none code is = is ∙ ap (λ (n : ℕ). takers_of (code_of g n) y) code ∙ sym (takers-first g s i y none)
+-- the list that the code takes, in the world in which the node got its word, is that of the takers
+takers-are : (g : Graph) (s : EvalState) (v : World) (i y u k : ℕ) (takers : List ℕ) → has_word s.world i y ≡ false → v ≡ got s.world i y u
+    → k ≡ (activation_at v i).code → takers ≡ takers_of (code_of g k) y → takers ≡ takers_now g s.world i y
+takers-are g s v i y u k takers none given code is =
+    is ∙ ap (λ (n : ℕ). takers_of (code_of g n) y) code ∙ ap (λ (z : World). takers_of (its_code g z i) y) given
+    ∙ ap (λ (c : Code). takers_of c y) (code-got s.world i y u g i) ∙ sym (takers-first g s i y none)
 
 -- whether a node is awaited in the world in which it got its word
 awaited-then : (g h : Graph) (w v : World) (i y u : ℕ) → h ≡ g → v ≡ got w i y u → is_awaited h v i y ≡ is_awaited g w i y
@@ -43,8 +46,8 @@ less-requires c =
     let i = c.args.at.activation in
     let y = c.args.at.node in
     let none : has_word s.world i y ≡ false = sym c.has_word-had.ensures.value ∙ c.if-had.false in
-    let takers = takers-are g s i y c.code_at-code.result c.takers-takers.result.now none c.code_at-code.ensures.value
-    c.takers-takers.ensures.value in
+    let takers = takers-are g s c.give.new.self i y c.args.word c.code_at-code.result c.takers-takers.result.now none
+    c.in_ok-give.ensures.ok c.code_at-code.ensures.value c.takers-takers.ensures.value in
     let awaited : is_awaited g s.world i y ≡ true = sym (awaited-then g c.graph.result.now s.world c.give.new.self i y c.args.word
     c.graph.ensures.value c.in_ok-give.ensures.ok) ∙ sym c.is_awaited-awaited.ensures.value ∙ c.if-awaited.true in
     let is : record s { world = c.give.new.self; ready = pairs_of c.ready_among.new.ready.items } ≡ effected g s (changes (got s.world i y c.args.word)) =
@@ -62,8 +65,8 @@ returns-then-awaited-clause-value c =
     let i = c.args.at.activation in
     let y = c.args.at.node in
     let none : has_word s.world i y ≡ false = sym c.has_word-had.ensures.value ∙ c.if-had.false in
-    let takers = takers-are g s i y c.code_at-code.result c.takers-takers.result.now none c.code_at-code.ensures.value
-    c.takers-takers.ensures.value in
+    let takers = takers-are g s c.give.new.self i y c.args.word c.code_at-code.result c.takers-takers.result.now none
+    c.in_ok-give.ensures.ok c.code_at-code.ensures.value c.takers-takers.ensures.value in
     state-got g s i y c.args.word c.give.new.self (pairs_of c.ready_among.new.ready.items) c.in_ok-give.ensures.ok
     (rw takers at c.in_ok-ready_among.ensures.ok)
 
@@ -74,8 +77,8 @@ returns-else-awaited-clause-value c =
     let i = c.args.at.activation in
     let y = c.args.at.node in
     let none : has_word s.world i y ≡ false = sym c.has_word-had.ensures.value ∙ c.if-had.false in
-    let takers = takers-are g s i y c.code_at-code.result c.takers-takers.result.now none c.code_at-code.ensures.value
-    c.takers-takers.ensures.value in
+    let takers = takers-are g s c.give.new.self i y c.args.word c.code_at-code.result c.takers-takers.result.now none
+    c.in_ok-give.ensures.ok c.code_at-code.ensures.value c.takers-takers.ensures.value in
     state-got g s i y c.args.word c.give.new.self (pairs_of c.ready_among.new.ready.items) c.in_ok-give.ensures.ok
     (rw takers at c.in_ok-ready_among.ensures.ok)
 
@@ -86,8 +89,8 @@ returns-then-awaited-clause-counts c =
     let i = c.args.at.activation in
     let y = c.args.at.node in
     let none : has_word s.world i y ≡ false = sym c.has_word-had.ensures.value ∙ c.if-had.false in
-    let takers = takers-are g s i y c.code_at-code.result c.takers-takers.result.now none c.code_at-code.ensures.value
-    c.takers-takers.ensures.value in
+    let takers = takers-are g s c.give.new.self i y c.args.word c.code_at-code.result c.takers-takers.result.now none
+    c.in_ok-give.ensures.ok c.code_at-code.ensures.value c.takers-takers.ensures.value in
     let awaited : is_awaited g s.world i y ≡ true = sym (awaited-then g c.graph.result.now s.world c.give.new.self i y c.args.word
     c.graph.ensures.value c.in_ok-give.ensures.ok) ∙ sym c.is_awaited-awaited.ensures.value ∙ c.if-awaited.true in
     let t : EvalState = record s { world = c.give.new.self; ready = pairs_of c.ready_among.new.ready.items } in
@@ -105,8 +108,8 @@ returns-else-awaited-clause-counts c =
     let i = c.args.at.activation in
     let y = c.args.at.node in
     let none : has_word s.world i y ≡ false = sym c.has_word-had.ensures.value ∙ c.if-had.false in
-    let takers = takers-are g s i y c.code_at-code.result c.takers-takers.result.now none c.code_at-code.ensures.value
-    c.takers-takers.ensures.value in
+    let takers = takers-are g s c.give.new.self i y c.args.word c.code_at-code.result c.takers-takers.result.now none
+    c.in_ok-give.ensures.ok c.code_at-code.ensures.value c.takers-takers.ensures.value in
     let unawaited : is_awaited g s.world i y ≡ false = sym (awaited-then g c.graph.result.now s.world c.give.new.self i y c.args.word
     c.graph.ensures.value c.in_ok-give.ensures.ok) ∙ sym c.is_awaited-awaited.ensures.value ∙ c.if-awaited.false in
     let t : EvalState = record s { world = c.give.new.self; ready = pairs_of c.ready_among.new.ready.items } in

@@ -1,14 +1,17 @@
 // What changes in a run.
 ghost use Rattle.std.specs.Prelude.{◌≡◌, ◌++◌, map, filter, OnOk};
 ghost use Rattle.tam_world.specs.Kept.{pairs_of};
+ghost use Rattle.tam_graph.specs.Graphs.{Graph as GraphRecord};
+ghost use Rattle.tam_world.specs.Worlds.{World as WorldRecord};
 ghost use Rattle.tam_eval.specs.GraphRuns.{is_enabled};
+ghost use Rattle.tam_eval.specs.Standing.{IsStanding};
 
 use crate::left::Left;
 use crate::standing::Standing;
 use std::alloc::AllocError;
 use std::collections::VecDeque;
 use tam_msgs::Pending;
-use tam_world::{NodeAt, Program, World};
+use tam_world::{NodeAt, World};
 
 /// What changes in a run.
 #[derive(Drop)]
@@ -25,15 +28,13 @@ pub(crate) struct Machine {
 // Those of the nodes that may fire become ready.
 #[inline(always)]
 pub(crate) fn ready_among(
-    program: &Program<'_>,
-    world: &World,
+    standing: &Standing<'_>,
     ready: &mut VecDeque<NodeAt>,
     i: u32,
     nodes: &[u32],
 ) -> Result<(), AllocError>
-    ensures ok { OnOk result (pairs_of ready.new.items ≡ pairs_of ready.old.items ++ map (λ x. (i, x)) (filter (is_enabled program.now world.now i) nodes.now)) }
+    ensures ok { OnOk result ((g : GraphRecord) (w : WorldRecord) → IsStanding g w i standing.now → pairs_of ready.new.items ≡ pairs_of ready.old.items ++ map (λ x. (i, x)) (filter (is_enabled g w i) nodes.now)) }
 {
-    let standing = Standing::of(program, world, i);
     for node in nodes {
         if standing.is_enabled(*node) {
             ready.push_back(NodeAt {

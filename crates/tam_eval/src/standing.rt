@@ -5,13 +5,16 @@ ghost use Rattle.tam_world.specs.Worlds.{World as WorldRecord};
 ghost use Rattle.tam_world.specs.Needs.{is_met};
 ghost use Rattle.tam_eval.specs.GraphRuns.{is_enabled};
 ghost use Rattle.tam_eval.specs.Standing.{IsStanding};
+ghost use Rattle.tam_eval.specs.Waiting.{is_awaited};
 
+use tam_world::nodes::{is_inlet, nodes_of};
 use tam_world::{Need, Program, World};
 
-/// What the nodes of an activation's code wait for, the words that they have got, and for each block whether it was entered. A shorter list of words
+/// An activation's code, what its nodes wait for, the words that they have got, and for each block whether it was entered. A shorter list of words
 /// or of blocks says no of the rest.
 #[derive(Clone, Copy)]
 pub(crate) struct Standing<'a> {
+    pub(crate) code: u32,
     needs: &'a [Need],
     words: &'a [Option<u32>],
     entered: &'a [bool],
@@ -22,10 +25,12 @@ impl<'a> Standing<'a> {
     pub(crate) fn of(program: &'a Program<'_>, world: &'a World, i: u32) -> Standing<'a>
         ensures value { IsStanding program.now world.now i result }
     {
+        let contents = world.contents(i);
         Standing {
-            needs: program.needs(world.code_at(i)),
-            words: world.words(i),
-            entered: world.entered(i),
+            code: contents.code,
+            needs: program.needs(contents.code),
+            words: contents.words,
+            entered: contents.entered,
         }
     }
 
@@ -35,6 +40,16 @@ impl<'a> Standing<'a> {
     {
         match self.needs.get(node as usize) {
             Some(need) => self.meets(need),
+            None => false,
+        }
+    }
+
+    /// Whether a node's value comes from outside its block, and the block was entered.
+    pub(crate) fn is_awaited(&self, program: &Program<'_>, node: u32) -> bool
+        ensures value { (w : WorldRecord) (i : ℕ) → IsStanding program.now w i self.now → result ≡ is_awaited program.now w i node }
+    {
+        match nodes_of(program.graph(), self.code).get(node as usize) {
+            Some(found) => is_inlet(found.kind) && self.has_entered(found.block),
             None => false,
         }
     }

@@ -1,22 +1,23 @@
 // What an event changes in a run.
-ghost use Rattle.std.specs.Prelude.{◌≡◌, ◌+◌, ◌<◌, ◌≤◌, ◌^◌, ◌++◌, ◌∷◌, [], not, count_by, length, map, OnOk};
+ghost use Rattle.std.specs.Prelude.{◌≡◌, ◌+◌, ◌<◌, ◌≤◌, ◌^◌, ◌++◌, ◌∷◌, [], not, count_by, filter, length, map, OnOk};
 ghost use Rattle.tam_istr.specs.CellAnswers.{reader_pair};
 ghost use Rattle.tam_msgs.specs.Messages.{answers};
 ghost use Rattle.tam_world.specs.Worlds.{got, entered, has_word, changes, sends_only};
 ghost use Rattle.tam_world.specs.Kept.{pairs_of};
 ghost use Rattle.tam_world.specs.Effects.{effect_in, with_begun};
+ghost use Rattle.tam_eval.specs.GraphRuns.{is_enabled};
 ghost use Rattle.tam_eval.specs.Machines.{sizes_of, Grows};
 ghost use Rattle.tam_eval.specs.Effects.{HasEffect};
-ghost use Rattle.tam_eval.specs.Waiting.{IsCovered, KeepsCounts, is_awaited};
+ghost use Rattle.tam_eval.specs.Waiting.{IsCovered, KeepsCounts};
 
 use crate::machine::{Machine, ready_among};
+use crate::standing::Standing;
 use std::alloc::AllocError;
 use std::collections::VecDeque;
 use tam_edge::NoMemory;
-use tam_graph::Graph;
 use tam_istr::Reader;
 use tam_msgs::{Message, Pending};
-use tam_world::nodes::{is_inlet, nodes_of};
+use tam_world::nodes::nodes_of;
 use tam_world::{Effect, NodeAt, Program, World};
 
 // A node gets a word, and those of its takers become ready that may fire now.
@@ -37,30 +38,14 @@ fn give_word(
     if had {
         return Ok(());
     }
-    let code = machine.world.code_at(at.activation);
-    let awaited = is_awaited(program.graph(), &machine.world, at);
-    let takers = program.takers(code, at.node);
-    ready_among(
-        program,
-        &machine.world,
-        &mut machine.ready,
-        at.activation,
-        takers,
-    )?;
+    let standing = Standing::of(program, &machine.world, at.activation);
+    let awaited = standing.is_awaited(program, at.node);
+    let takers = program.takers(standing.code, at.node);
+    ready_among(&standing, &mut machine.ready, at.activation, takers)?;
     if awaited {
         machine.left.less(at.activation);
     }
     Ok(())
-}
-
-// Whether a node's value comes from outside its block, and the block was entered.
-fn is_awaited(graph: &Graph, world: &World, at: NodeAt) -> bool
-    ensures value { result ≡ is_awaited graph.now world.now at.activation at.node }
-{
-    match nodes_of(graph, world.code_at(at.activation)).get(at.node as usize) {
-        Some(node) => is_inlet(node.kind) && world.has_entered(at.activation, node.block),
-        None => false,
-    }
 }
 
 // A block is entered, and those of its nodes become ready that may fire now.
@@ -82,10 +67,24 @@ fn enter_block(
         return Ok(());
     }
     let firers = program.firers(code, block);
-    ready_among(program, &machine.world, &mut machine.ready, i, firers)?;
+    ready_at(program, &machine.world, &mut machine.ready, i, firers)?;
     let empty = empty_among(&machine.world, i, program.block_inlets(code, block));
     machine.left.more(i, firers.len() + empty);
     Ok(())
+}
+
+// Those of an activation's nodes that may fire become ready.
+fn ready_at(
+    program: &Program<'_>,
+    world: &World,
+    ready: &mut VecDeque<NodeAt>,
+    i: u32,
+    nodes: &[u32],
+) -> Result<(), AllocError>
+    ensures ok { OnOk result (pairs_of ready.new.items ≡ pairs_of ready.old.items ++ map (λ x. (i, x)) (filter (is_enabled program.now world.now i) nodes.now)) }
+{
+    let standing = Standing::of(program, world, i);
+    ready_among(&standing, ready, i, nodes)
 }
 
 // How many of the nodes have no word.

@@ -5,6 +5,7 @@
 #![tactic(auto)]
 
 mod activation;
+mod contents;
 mod delivery;
 mod effect;
 mod finding;
@@ -18,6 +19,7 @@ mod program;
 mod table;
 mod world;
 
+pub use contents::Contents;
 pub use delivery::{Delivery, Fault};
 pub use effect::Effect;
 pub use finding::{Sought, find_enter, find_merge, find_node};

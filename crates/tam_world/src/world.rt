@@ -8,7 +8,7 @@ ghost use Rattle.tam_world.specs.Kept.{activations_of};
 ghost use Rattle.tam_world.specs.Effects.{with_begun};
 
 use crate::activation::Activation;
-use crate::{NodeAt, OUTSIDE};
+use crate::{Contents, NodeAt, OUTSIDE};
 use std::alloc::{AllocError, Global};
 use std::marker::Model;
 use tam_istr::Cells;
@@ -109,6 +109,26 @@ impl World {
         match self.activations.get(i as usize) {
             Some(activation) => &activation.entered,
             None => &[],
+        }
+    }
+
+    /// What an activation has got.
+    pub fn contents(&self, i: u32) -> Contents<'_>
+        ensures code { result.code ≡ (activation_at self.now i).code }
+        ensures words { result.words.now ≡ (activation_at self.now i).words }
+        ensures entered { result.entered.now ≡ (activation_at self.now i).entered }
+    {
+        match self.activations.get(i as usize) {
+            Some(activation) => Contents {
+                code: activation.code,
+                words: &activation.words,
+                entered: &activation.entered,
+            },
+            None => Contents {
+                code: 0,
+                words: &[],
+                entered: &[],
+            },
         }
     }
 

@@ -57,8 +57,8 @@ returns-clause-value c =
     let list_is : c.firers-firers.result.now ≡ firers_now g s.world c.args.i c.args.block =
     (c.firers-firers.ensures.value ∙ ap (λ (k : ℕ). firers_in (code_of c.args.program.now k) c.args.block) c.code_at-code.ensures.value)
     ∙ sym (firers-first g s c.args.i c.args.block had) in
-    state-entered g s c.args.i c.args.block c.enter.new.self (pairs_of c.ready_among.new.ready.items) c.in_ok-enter.ensures.ok
-    (rw list_is at c.in_ok-ready_among.ensures.ok)
+    state-entered g s c.args.i c.args.block c.enter.new.self (pairs_of c.ready_at.new.ready.items) c.in_ok-enter.ensures.ok
+    (rw list_is at c.in_ok-ready_at.ensures.ok)
 
 pub returns-clause-counts : goal.returns-clause-counts
 returns-clause-counts c =
@@ -70,10 +70,10 @@ returns-clause-counts c =
     let firers : c.firers-firers.result.now ≡ firers_in (its_code g s.world i) b =
     (c.firers-firers.ensures.value ∙ ap (λ (k : ℕ). firers_in (code_of c.args.program.now k) b) c.code_at-code.ensures.value) in
     let inlets : c.block_inlets.result.now ≡ inlets_in (its_code g s.world i) b = rw c.code_at-code.ensures.value at c.block_inlets.ensures.value in
-    let t : EvalState = record s { world = c.enter.new.self; ready = pairs_of c.ready_among.new.ready.items } in
+    let t : EvalState = record s { world = c.enter.new.self; ready = pairs_of c.ready_at.new.ready.items } in
     let is : t ≡ effected g s (changes (entered s.world i b)) =
-    state-entered g s i b c.enter.new.self (pairs_of c.ready_among.new.ready.items) c.in_ok-enter.ensures.ok
-    (rw (firers ∙ sym (firers-first g s i b had)) at c.in_ok-ready_among.ensures.ok) in
+    state-entered g s i b c.enter.new.self (pairs_of c.ready_at.new.ready.items) c.in_ok-enter.ensures.ok
+    (rw (firers ∙ sym (firers-first g s i b had)) at c.in_ok-ready_at.ensures.ok) in
     let empty : c.empty_among-empty.result ≡ count_by (λ x. not (has_word s.world i x)) (inlets_in (its_code g s.world i) b) =
     rw (inlets, c.in_ok-enter.ensures.ok) at c.empty_among-empty.ensures.value ∙ same-empty g s t i b is c.args.machine.now.left in
     rw c.more.ensures.value (keeps-more g s t i b is c.args.machine.now.left had c.requires.covered.one_each

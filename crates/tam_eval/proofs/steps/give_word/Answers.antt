@@ -20,8 +20,8 @@ takers-are g s v i y u k takers none given code is =
     ∙ ap (λ (c : Code). takers_of c y) (code-got s.world i y u g i) ∙ sym (takers-first g s i y none)
 
 -- whether a node is awaited in the world in which it got its word
-awaited-then : (g h : Graph) (w v : World) (i y u : ℕ) → h ≡ g → v ≡ got w i y u → is_awaited h v i y ≡ is_awaited g w i y
-awaited-then g h w v i y u same is = ap (λ (k : Graph). is_awaited k v i y) same ∙ ap (λ (z : World). is_awaited g z i y) is ∙ awaited-got g w i y u
+awaited-then : (g : Graph) (w v : World) (i y u : ℕ) → v ≡ got w i y u → is_awaited g v i y ≡ is_awaited g w i y
+awaited-then g w v i y u is = ap (λ (z : World). is_awaited g z i y) is ∙ awaited-got g w i y u
 
 pub returns-then-had-clause-value : goal.returns-then-had-clause-value
 returns-then-had-clause-value c =
@@ -46,13 +46,12 @@ less-requires c =
     let i = c.args.at.activation in
     let y = c.args.at.node in
     let none : has_word s.world i y ≡ false = sym c.has_word-had.ensures.value ∙ c.if-had.false in
-    let takers = takers-are g s c.give.new.self i y c.args.word c.code_at-code.result c.takers-takers.result.now none
-    c.in_ok-give.ensures.ok c.code_at-code.ensures.value c.takers-takers.ensures.value in
-    let awaited : is_awaited g s.world i y ≡ true = sym (awaited-then g c.graph.result.now s.world c.give.new.self i y c.args.word
-    c.graph.ensures.value c.in_ok-give.ensures.ok) ∙ sym c.is_awaited-awaited.ensures.value ∙ c.if-awaited.true in
+    let takers = takers-are g s c.give.new.self i y c.args.word c.of-standing.result.code c.takers-takers.result.now none
+    c.in_ok-give.ensures.ok c.of-standing.ensures.value.code c.takers-takers.ensures.value in
+    let awaited : is_awaited g s.world i y ≡ true = sym (awaited-then g s.world c.give.new.self i y c.args.word c.in_ok-give.ensures.ok) ∙ sym (c.is_awaited-awaited.ensures.value c.give.new.self i c.of-standing.ensures.value) ∙ c.if-awaited.true in
     let is : record s { world = c.give.new.self; ready = pairs_of c.ready_among.new.ready.items } ≡ effected g s (changes (got s.world i y c.args.word)) =
     state-got g s i y c.args.word c.give.new.self (pairs_of c.ready_among.new.ready.items) c.in_ok-give.ensures.ok
-    (rw takers at c.in_ok-ready_among.ensures.ok) in
+    (rw takers at (c.in_ok-ready_among.ensures.ok c.args.program.now c.give.new.self c.of-standing.ensures.value)) in
     record {
       some = some-awaited g s (record s { world = c.give.new.self; ready = pairs_of c.ready_among.new.ready.items }) i y c.args.word is
           c.args.machine.now.left none awaited (c.requires.covered.least i);
@@ -65,10 +64,10 @@ returns-then-awaited-clause-value c =
     let i = c.args.at.activation in
     let y = c.args.at.node in
     let none : has_word s.world i y ≡ false = sym c.has_word-had.ensures.value ∙ c.if-had.false in
-    let takers = takers-are g s c.give.new.self i y c.args.word c.code_at-code.result c.takers-takers.result.now none
-    c.in_ok-give.ensures.ok c.code_at-code.ensures.value c.takers-takers.ensures.value in
+    let takers = takers-are g s c.give.new.self i y c.args.word c.of-standing.result.code c.takers-takers.result.now none
+    c.in_ok-give.ensures.ok c.of-standing.ensures.value.code c.takers-takers.ensures.value in
     state-got g s i y c.args.word c.give.new.self (pairs_of c.ready_among.new.ready.items) c.in_ok-give.ensures.ok
-    (rw takers at c.in_ok-ready_among.ensures.ok)
+    (rw takers at (c.in_ok-ready_among.ensures.ok c.args.program.now c.give.new.self c.of-standing.ensures.value))
 
 pub returns-else-awaited-clause-value : goal.returns-else-awaited-clause-value
 returns-else-awaited-clause-value c =
@@ -77,10 +76,10 @@ returns-else-awaited-clause-value c =
     let i = c.args.at.activation in
     let y = c.args.at.node in
     let none : has_word s.world i y ≡ false = sym c.has_word-had.ensures.value ∙ c.if-had.false in
-    let takers = takers-are g s c.give.new.self i y c.args.word c.code_at-code.result c.takers-takers.result.now none
-    c.in_ok-give.ensures.ok c.code_at-code.ensures.value c.takers-takers.ensures.value in
+    let takers = takers-are g s c.give.new.self i y c.args.word c.of-standing.result.code c.takers-takers.result.now none
+    c.in_ok-give.ensures.ok c.of-standing.ensures.value.code c.takers-takers.ensures.value in
     state-got g s i y c.args.word c.give.new.self (pairs_of c.ready_among.new.ready.items) c.in_ok-give.ensures.ok
-    (rw takers at c.in_ok-ready_among.ensures.ok)
+    (rw takers at (c.in_ok-ready_among.ensures.ok c.args.program.now c.give.new.self c.of-standing.ensures.value))
 
 pub returns-then-awaited-clause-counts : goal.returns-then-awaited-clause-counts
 returns-then-awaited-clause-counts c =
@@ -89,14 +88,13 @@ returns-then-awaited-clause-counts c =
     let i = c.args.at.activation in
     let y = c.args.at.node in
     let none : has_word s.world i y ≡ false = sym c.has_word-had.ensures.value ∙ c.if-had.false in
-    let takers = takers-are g s c.give.new.self i y c.args.word c.code_at-code.result c.takers-takers.result.now none
-    c.in_ok-give.ensures.ok c.code_at-code.ensures.value c.takers-takers.ensures.value in
-    let awaited : is_awaited g s.world i y ≡ true = sym (awaited-then g c.graph.result.now s.world c.give.new.self i y c.args.word
-    c.graph.ensures.value c.in_ok-give.ensures.ok) ∙ sym c.is_awaited-awaited.ensures.value ∙ c.if-awaited.true in
+    let takers = takers-are g s c.give.new.self i y c.args.word c.of-standing.result.code c.takers-takers.result.now none
+    c.in_ok-give.ensures.ok c.of-standing.ensures.value.code c.takers-takers.ensures.value in
+    let awaited : is_awaited g s.world i y ≡ true = sym (awaited-then g s.world c.give.new.self i y c.args.word c.in_ok-give.ensures.ok) ∙ sym (c.is_awaited-awaited.ensures.value c.give.new.self i c.of-standing.ensures.value) ∙ c.if-awaited.true in
     let t : EvalState = record s { world = c.give.new.self; ready = pairs_of c.ready_among.new.ready.items } in
     let is : t ≡ effected g s (changes (got s.world i y c.args.word)) =
     state-got g s i y c.args.word c.give.new.self (pairs_of c.ready_among.new.ready.items) c.in_ok-give.ensures.ok
-    (rw takers at c.in_ok-ready_among.ensures.ok) in
+    (rw takers at (c.in_ok-ready_among.ensures.ok c.args.program.now c.give.new.self c.of-standing.ensures.value)) in
     let l = c.args.machine.now.left in
     rw c.less.ensures.value (keeps-less g s t i y c.args.word is l none awaited
     (some-awaited g s t i y c.args.word is l none awaited (c.requires.covered.least i)))
@@ -108,12 +106,11 @@ returns-else-awaited-clause-counts c =
     let i = c.args.at.activation in
     let y = c.args.at.node in
     let none : has_word s.world i y ≡ false = sym c.has_word-had.ensures.value ∙ c.if-had.false in
-    let takers = takers-are g s c.give.new.self i y c.args.word c.code_at-code.result c.takers-takers.result.now none
-    c.in_ok-give.ensures.ok c.code_at-code.ensures.value c.takers-takers.ensures.value in
-    let unawaited : is_awaited g s.world i y ≡ false = sym (awaited-then g c.graph.result.now s.world c.give.new.self i y c.args.word
-    c.graph.ensures.value c.in_ok-give.ensures.ok) ∙ sym c.is_awaited-awaited.ensures.value ∙ c.if-awaited.false in
+    let takers = takers-are g s c.give.new.self i y c.args.word c.of-standing.result.code c.takers-takers.result.now none
+    c.in_ok-give.ensures.ok c.of-standing.ensures.value.code c.takers-takers.ensures.value in
+    let unawaited : is_awaited g s.world i y ≡ false = sym (awaited-then g s.world c.give.new.self i y c.args.word c.in_ok-give.ensures.ok) ∙ sym (c.is_awaited-awaited.ensures.value c.give.new.self i c.of-standing.ensures.value) ∙ c.if-awaited.false in
     let t : EvalState = record s { world = c.give.new.self; ready = pairs_of c.ready_among.new.ready.items } in
     let is : t ≡ effected g s (changes (got s.world i y c.args.word)) =
     state-got g s i y c.args.word c.give.new.self (pairs_of c.ready_among.new.ready.items) c.in_ok-give.ensures.ok
-    (rw takers at c.in_ok-ready_among.ensures.ok) in
+    (rw takers at (c.in_ok-ready_among.ensures.ok c.args.program.now c.give.new.self c.of-standing.ensures.value)) in
     keeps-got g s t i y c.args.word is c.args.machine.now.left none unawaited

@@ -1,12 +1,13 @@
 -- The first of a list that passes a test.
-use Rattle.std.proofs.Common.{◌≡◌, ◌∙◌, ℕ, zero, suc, ◌<◌, Bool, true, false, ◌==◌, ◌&&◌, List, [], ◌∷◌, length, filter, drop, get_or, refl, ap, sym, arith}
+use Rattle.std.proofs.Common.{◌≡◌, ◌∙◌, ℕ, zero, suc, ◌<◌, Bool, true, false, ◌==◌, ◌&&◌, List, [], ◌∷◌, length, filter, drop, get_or, refl, ap, ap₂, sym, arith}
 use Rattle.tam_word.specs.Lists.{first_of}
+use Rattle.tam_word.proofs.Tests.{number-eq, eq-number}
 use Rattle.tam_graph.specs.declared.kind.Kind.{Kind}
 use Rattle.tam_graph.specs.declared.kind.Kind.TheVariants.{Param as Param_node, Ret as Ret_node, Merge as Merge_node, Enter as Enter_node}
 use Rattle.tam_graph.specs.Graphs.{Code, kind_at, block_at, node_numbers}
 use Rattle.tam_world.specs.declared.finding.Sought.{Sought}
 use Rattle.tam_world.specs.declared.finding.Sought.TheVariants.{Param, Ret, Merge, Enter}
-use Rattle.tam_world.specs.Sought.{is_sought, is_keyed, key_of, inlets_of, sought_in}
+use Rattle.tam_world.specs.Sought.{is_sought, is_keyed, enter_key, key_of, inlets_of, sought_in}
 
 -- an element that passes, where the rest begins with it
 pub first-here : (test : ℕ → Bool) (xs : List ℕ) (i d : ℕ) → i < length xs → test (get_or xs i d) ≡ true → first_of test (drop i xs) ≡ get_or xs i d ∷ []
@@ -54,24 +55,35 @@ fails : (s : Bool) → (s && false) ≡ false
 fails true = refl
 fails false = refl
 
+-- an `in` of the same block and place is kept under the same number
+entered-keyed : (b j c k : ℕ) → ((enter_key b j == enter_key c k) && ((b == c) && (j == k))) ≡ ((b == c) && (j == k))
+entered-keyed b j c k = go (b == c) refl (j == k) refl
+  where
+    go : (s : Bool) → (b == c) ≡ s → (t : Bool) → (j == k) ≡ t → ((enter_key b j == enter_key c k) && (s && t)) ≡ (s && t)
+    go true d true e =
+        let same : enter_key b j ≡ enter_key c k = ap₂ enter_key (number-eq b c d) (number-eq j k e) in
+        rw (eq-number (enter_key b j) (enter_key c k) same) refl
+    go true d false e = fails (enter_key b j == enter_key c k)
+    go false d t e = fails (enter_key b j == enter_key c k)
+
 -- what is looked for is kept under its number
 keyed-sought : (sought : Sought) (b : ℕ) (kind : Kind) → (is_keyed (key_of sought) b kind && is_sought sought b kind) ≡ is_sought sought b kind
 keyed-sought (Param k) b (Param_node j) = once (j == k)
 keyed-sought (Param k) b (Ret_node f j) = fails (f == k)
 keyed-sought (Param k) b (Merge_node d j) = fails (d == k)
-keyed-sought (Param k) b (Enter_node j) = fails (b == k)
+keyed-sought (Param k) b (Enter_node j) = fails (enter_key b j == k)
 keyed-sought (Ret f k) b (Param_node j) = fails (j == f)
 keyed-sought (Ret f k) b (Ret_node e j) = twice (e == f) (j == k)
 keyed-sought (Ret f k) b (Merge_node d j) = fails (d == f)
-keyed-sought (Ret f k) b (Enter_node j) = fails (b == f)
+keyed-sought (Ret f k) b (Enter_node j) = fails (enter_key b j == f)
 keyed-sought (Merge d k) b (Param_node j) = fails (j == d)
 keyed-sought (Merge d k) b (Ret_node e j) = fails (e == d)
 keyed-sought (Merge d k) b (Merge_node e j) = twice (e == d) (j == k)
-keyed-sought (Merge d k) b (Enter_node j) = fails (b == d)
-keyed-sought (Enter c k) b (Param_node j) = ap (λ t. (j == c) && t) (fails (b == c)) ∙ fails (j == c) ∙ sym (fails (b == c))
-keyed-sought (Enter c k) b (Ret_node e j) = ap (λ t. (e == c) && t) (fails (b == c)) ∙ fails (e == c) ∙ sym (fails (b == c))
-keyed-sought (Enter c k) b (Merge_node d j) = ap (λ t. (d == c) && t) (fails (b == c)) ∙ fails (d == c) ∙ sym (fails (b == c))
-keyed-sought (Enter c k) b (Enter_node j) = twice (b == c) (j == k)
+keyed-sought (Merge d k) b (Enter_node j) = fails (enter_key b j == d)
+keyed-sought (Enter c k) b (Param_node j) = ap (λ t. (j == enter_key c k) && t) (fails (b == c)) ∙ fails (j == enter_key c k) ∙ sym (fails (b == c))
+keyed-sought (Enter c k) b (Ret_node e j) = ap (λ t. (e == enter_key c k) && t) (fails (b == c)) ∙ fails (e == enter_key c k) ∙ sym (fails (b == c))
+keyed-sought (Enter c k) b (Merge_node d j) = ap (λ t. (d == enter_key c k) && t) (fails (b == c)) ∙ fails (d == enter_key c k) ∙ sym (fails (b == c))
+keyed-sought (Enter c k) b (Enter_node j) = entered-keyed b j c k
 keyed-sought (Enter c k) b kind = sym (fails (b == c))
 keyed-sought sought b kind = refl
 

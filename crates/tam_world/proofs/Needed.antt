@@ -1,16 +1,15 @@
 -- The needs of a code's nodes, node by node.
-use Rattle.std.proofs.Common.{◌≡◌, ◌∙◌, ℕ, suc, ◌<◌, ◌≤◌, Bool, true, false, ◌&&◌, List, [], ◌∷◌, ◌++◌, Option, Some, None, length, refl, sym, ap, subst, arith}
+use Rattle.std.proofs.Common.{◌≡◌, ℕ, suc, ◌<◌, ◌≤◌, Bool, true, false, List, [], ◌∷◌, ◌++◌, Option, Some, None, length, refl, sym, ap, subst, arith}
 use Rattle.std.proofs.Common.{nat_lt, tests, ⊎_elim, length-append}
 use Rattle.std.specs.Prelude.{slice_get}
-use Rattle.tam_word.specs.Lists.{all_of}
 use Rattle.tam_word.proofs.Tests.{test-below}
 use Rattle.tam_word.proofs.Each.{get-left, get-last, get-past, last-or_before}
 use Rattle.tam_graph.specs.declared.kind.Kind.{Kind}
 use Rattle.tam_graph.specs.declared.node.Node.{Node}
-use Rattle.tam_graph.specs.Graphs.{Code, kind_at, block_at, or_kind, or_block, operands_of, fires}
+use Rattle.tam_graph.specs.Graphs.{Code, kind_at, block_at, or_kind, or_block, fires}
 use Rattle.tam_world.specs.declared.need.Need.{Need}
-use Rattle.tam_world.specs.declared.need.Need.TheVariants.{Never, Block, Words}
-use Rattle.tam_world.specs.Needs.{IsNeedOf, AreNeedsOf, or_never, is_met}
+use Rattle.tam_world.specs.declared.need.Need.TheVariants.{Never}
+use Rattle.tam_world.specs.Needs.{IsNeedOf, AreNeedsOf, or_never}
 
 -- a node that never fires
 needs-never : (c : Code) (block : ℕ) (kind : Kind) → fires kind ≡ false → IsNeedOf c block kind Never

@@ -1,25 +1,26 @@
 -- Elements put at places of lists.
-use Rattle.std.proofs.Common.{◌≡◌, ℕ, zero, suc, ◌+◌, ◌-◌, List, [], ◌∷◌, ◌++◌, length, replicate, slice_set, refl, ap, sym, ◌≤◌, ◌∙◌, append_assoc, length-append, arith}
+use Rattle.std.proofs.Common.{◌≡◌, ℕ, zero, suc, ◌<◌, ◌+◌, ◌-◌, List, [], ◌∷◌, ◌++◌, length, replicate, slice_set, refl, ap, sym, ◌≤◌, ◌∙◌, append_assoc, length-append, arith}
 use Rattle.tam_word.specs.Lists.{put_at}
 
--- nothing behind a list
-with_nothing : {X : Type 0} (xs : List X) → xs ++ [] ≡ xs
-with_nothing [] = refl
-with_nothing (x ∷ xs) = ap (λ l. x ∷ l) (with_nothing xs)
+-- an element that is put where the list has an element is set
+pub put_at-set : {X : Type 0} (blank : X) (n : ℕ) (x : X) (xs : List X) → n < length xs → slice_set xs n x ≡ put_at blank n x xs
+put_at-set blank n x [] inside = absurd (omega arith)
+put_at-set blank zero x (y ∷ ys) inside = refl
+put_at-set blank (suc n) x (y ∷ ys) inside = ap (λ l. y ∷ l) (put_at-set blank n x ys (omega arith))
 
--- with as many blanks behind a list as it takes to have the place, the element there is set
-set-padded : {X : Type 0} (blank : X) (n : ℕ) (x : X) (xs : List X) (k : ℕ) → k ≡ n + 1 - length xs
-    → slice_set (xs ++ replicate k blank) n x ≡ put_at blank n x xs
-set-padded blank n x [] zero many = absurd (omega arith)
-set-padded blank zero x [] (suc k) many = let none : k ≡ 0 = omega arith in rw none refl
-set-padded blank (suc n) x [] (suc k) many = ap (λ l. blank ∷ l) (set-padded blank n x [] k (omega arith))
-set-padded blank zero x (y ∷ ys) k many = let none : k ≡ 0 = omega arith in rw none (ap (λ l. x ∷ l) (with_nothing ys))
-set-padded blank (suc n) x (y ∷ ys) k many = ap (λ l. y ∷ l) (set-padded blank n x ys k (omega arith))
+-- where the list is shorter, it stands behind as many blanks as it takes
+pushed : {X : Type 0} (blank : X) (n : ℕ) (x : X) (xs : List X) (k : ℕ) → k + length xs ≡ n → (xs ++ replicate k blank) ++ x ∷ [] ≡ put_at blank n x xs
+pushed blank zero x [] zero many = refl
+pushed blank (suc n) x [] zero many = absurd (omega arith)
+pushed blank zero x [] (suc k) many = absurd (omega arith)
+pushed blank (suc n) x [] (suc k) many = ap (λ l. blank ∷ l) (pushed blank n x [] k (omega arith))
+pushed blank zero x (y ∷ ys) k many = absurd (omega arith)
+pushed blank (suc n) x (y ∷ ys) k many = ap (λ l. y ∷ l) (pushed blank n x ys k (omega arith))
 
 -- the same for that many
-pub put_at-padded : {X : Type 0} (blank : X) (n : ℕ) (x : X) (xs : List X)
-    → slice_set (xs ++ replicate (n + 1 - length xs) blank) n x ≡ put_at blank n x xs
-put_at-padded blank n x xs = set-padded blank n x xs (n + 1 - length xs) refl
+pub put_at-pushed : {X : Type 0} (blank : X) (n : ℕ) (x : X) (xs : List X) → length xs ≤ n
+    → (xs ++ replicate (n - length xs) blank) ++ x ∷ [] ≡ put_at blank n x xs
+put_at-pushed blank n x xs short = pushed blank n x xs (n - length xs) (omega arith)
 
 -- one more of several
 replicate-last : {X : Type 0} (k : ℕ) (blank : X) → replicate (suc k) blank ≡ replicate k blank ++ blank ∷ []

@@ -1,5 +1,5 @@
 -- Which node is looked for, by what it does, and among which it stands.
-use Rattle.std.specs.Prelude.{ℕ, Bool, false, ◌==◌, ◌&&◌, List, filter}
+use Rattle.std.specs.Prelude.{ℕ, Bool, false, ◌==◌, ◌&&◌, ◌*◌, ◌%◌, bit_xor, List, filter}
 use Rattle.tam_word.specs.Lists.{first_of}
 use Rattle.tam_graph.specs.declared.kind.Kind.{Kind}
 use Rattle.tam_graph.specs.declared.kind.Kind.TheVariants.{Param as Param_node, Ret as Ret_node, Merge as Merge_node, Enter as Enter_node}
@@ -18,19 +18,23 @@ is_sought (Enter c k) b kind = (b == c) && is_enter k kind
 abbrev pub sought_in : Code → Sought → List ℕ
 sought_in c sought = first_of (λ x. is_sought sought (block_at c x) (kind_at c x)) (node_numbers c)
 
--- the number under which it is kept: a param's place, a ret's call, a merge's cond, an `in`'s block
+-- the number under which an `in` is kept: of few blocks and places each two have their own
+abbrev pub enter_key : ℕ → ℕ → ℕ
+enter_key b k = bit_xor b (k % 64 * 8)
+
+-- the number under which it is kept: a param's place, a ret's call, a merge's cond, an `in`'s block and place
 abbrev pub key_of : Sought → ℕ
 key_of (Param k) = k
 key_of (Ret f k) = f
 key_of (Merge d k) = d
-key_of (Enter c k) = c
+key_of (Enter c k) = enter_key c k
 
 -- a node of this kind in this block is kept under the number
 abbrev pub is_keyed : ℕ → ℕ → Kind → Bool
 is_keyed y b (Param_node k) = k == y
 is_keyed y b (Ret_node f k) = f == y
 is_keyed y b (Merge_node d k) = d == y
-is_keyed y b (Enter_node k) = b == y
+is_keyed y b (Enter_node k) = enter_key b k == y
 is_keyed y b _ = false
 
 -- the nodes kept under a number, rising

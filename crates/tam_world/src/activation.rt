@@ -1,5 +1,5 @@
 // One activation of a code.
-ghost use Rattle.std.specs.Prelude.{◌≡◌, ◌+◌, ◌-◌, ◌<◌, ◌++◌, None, Some, true, false, length, replicate, slice_index_or, OnOk, IfOk};
+ghost use Rattle.std.specs.Prelude.{◌≡◌, ◌+◌, ◌-◌, ◌≤◌, ◌++◌, None, Some, true, false, length, replicate, slice_index_or, OnOk, IfOk};
 ghost use Rattle.tam_word.specs.Lists.{put_at};
 ghost use Rattle.tam_world.specs.Worlds.{begun, with_word, with_block};
 ghost use Rattle.tam_world.specs.Kept.{activation_of};
@@ -82,21 +82,22 @@ impl Activation {
 fn put_at<T: Copy>(list: &mut Vec<T>, blank: T, place: u32, element: T) -> Result<(), AllocError>
     ensures ok { OnOk result (list.new.items ≡ put_at blank place element list.old.items) }
 {
+    if (place as usize) < list.len() {
+        list[place as usize] = element;
+        return Ok(());
+    }
     lengthen(list, blank, place)?;
-    list[place as usize] = element;
+    list.push(element)?;
     Ok(())
 }
 
-// Adds blanks until the list has the place.
+// Adds blanks until the place is the next one, with room for an element there.
 fn lengthen<T: Copy>(list: &mut Vec<T>, blank: T, place: u32) -> Result<(), AllocError>
-    ensures ok { OnOk result (list.new.items ≡ list.old.items ++ replicate (place + 1 - length list.old.items) blank) }
-    ensures inside { OnOk result (place < length list.new.items) }
+    requires short { length list.old.items ≤ place }
+    ensures ok { OnOk result (list.new.items ≡ list.old.items ++ replicate (place - length list.old.items) blank) }
 {
-    let wanted = place as usize + 1;
-    if wanted <= list.len() {
-        return Ok(());
-    }
-    list.reserve(wanted - list.len())?;
+    let wanted = place as usize;
+    list.reserve(wanted + 1 - list.len())?;
     while list.len() < wanted {
         list.push(blank)?;
     }

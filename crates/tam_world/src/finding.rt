@@ -2,7 +2,7 @@
 ghost use Rattle.std.specs.Prelude.{◌≡◌, slice_get, option_to_list};
 ghost use Rattle.tam_graph.specs.Graphs.{code_of, or_block, or_kind, owner_of, node_in, is_enter};
 ghost use Rattle.tam_world.specs.Worlds.{merges_of};
-ghost use Rattle.tam_world.specs.Sought.{is_sought, sought_in, key_of};
+ghost use Rattle.tam_world.specs.Sought.{is_sought, sought_in, enter_key, key_of};
 
 use crate::nodes::{nodes_of, owner_of};
 use crate::program::Program;
@@ -39,8 +39,15 @@ fn key_of(sought: Sought) -> u32
         Sought::Param { place } => place,
         Sought::Ret { call, .. } => call,
         Sought::Merge { cond, .. } => cond,
-        Sought::Enter { block, .. } => block,
+        Sought::Enter { block, place } => enter_key(block, place),
     }
+}
+
+// The number under which an `in` is kept.
+pub(crate) fn enter_key(block: u32, place: u32) -> u32
+    ensures value { result ≡ enter_key block place }
+{
+    block ^ (place % 64 * 8)
 }
 
 /// The first node that is what is looked for.

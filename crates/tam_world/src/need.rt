@@ -9,12 +9,6 @@ use tam_graph::{Graph, Kind};
 /// What a node waits for before it may fire.
 #[derive(Clone, Copy, Debug, PartialEq, Eq)]
 pub enum Need {
-    /// It never fires.
-    Never,
-    /// That its block is entered.
-    Block {
-        block: u32,
-    },
     /// That its block is entered and its operands have words. Where they are fewer than three, the last stands for the others too.
     Words {
         block: u32,
@@ -22,6 +16,12 @@ pub enum Need {
         second: u32,
         third: u32,
     },
+    /// That its block is entered.
+    Block {
+        block: u32,
+    },
+    /// It never fires.
+    Never,
 }
 
 impl Need {

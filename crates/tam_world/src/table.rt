@@ -7,6 +7,7 @@ ghost use Rattle.tam_world.specs.Sought.{is_keyed};
 ghost use Rattle.tam_world.specs.Tables.{listed, IsTableOf};
 
 use crate::Need;
+use crate::finding::enter_key;
 use crate::nodes::{fires, is_inlet, kind_at, nodes_of, test_of};
 use std::alloc::{AllocError, Global};
 use tam_graph::{Graph, Kind, Node};
@@ -20,7 +21,7 @@ pub(crate) struct Table {
     pub(crate) firers: Vec<Vec<u32>>,
     /// For each block its inlets, calls, allocs and fetches among them.
     pub(crate) block_inlets: Vec<Vec<u32>>,
-    /// For each number those inlets that are kept under it: a param's place, a ret's call, a merge's cond, an `in`'s block.
+    /// For each number those inlets that are kept under it: a param's place, a ret's call, a merge's cond, an `in`'s block and place.
     pub(crate) inlets: Vec<Vec<u32>>,
     /// Those that may fire as soon as an activation begins.
     pub(crate) starters: Vec<u32>,
@@ -186,7 +187,7 @@ fn add_inlet(
         Kind::Param { place } => add(alloc, inlets, place, x),
         Kind::Ret { call, .. } => add(alloc, inlets, call, x),
         Kind::Merge { cond, .. } => add(alloc, inlets, cond, x),
-        Kind::Enter { .. } => add(alloc, inlets, block, x),
+        Kind::Enter { place } => add(alloc, inlets, enter_key(block, place), x),
         _ => Ok(()),
     }
 }

@@ -1,4 +1,4 @@
-use Rattle.std.proofs.Common.{◌≡◌, ◌∙◌, ◌++◌, ◌∷◌, [], ◌-◌, length, replicate, length-append, subst, sym, arith}
+use Rattle.std.proofs.Common.{◌≡◌, ◌++◌, ◌∷◌, [], length-append, arith}
 use Rattle.tam_world.proofs.Putting.{blank-more}
 use Rattle.tam_world.proofs.activation.lengthen.Goals as goal
 

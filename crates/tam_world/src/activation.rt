@@ -64,6 +64,7 @@ impl Activation {
     }
 
     /// A node gets a word.
+    #[inline(always)]
     pub(crate) fn put_word(&mut self, node: u32, word: u32) -> Result<(), AllocError>
         ensures ok { OnOk result (activation_of self.new ≡ with_word node word (activation_of self.old)) }
     {
@@ -79,6 +80,7 @@ impl Activation {
 }
 
 // Puts an element at a place; where the list is shorter, the places before it get a blank.
+#[inline(always)]
 fn put_at<T: Copy>(list: &mut Vec<T>, blank: T, place: u32, element: T) -> Result<(), AllocError>
     ensures ok { OnOk result (list.new.items ≡ put_at blank place element list.old.items) }
 {

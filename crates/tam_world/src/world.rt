@@ -159,6 +159,7 @@ impl World {
     }
 
     /// A node gets a word.
+    #[inline(always)]
     pub fn give(&mut self, at: NodeAt, word: u32) -> Result<(), AllocError>
         ensures ok { OnOk result (self.new ≡ got self.old at.activation at.node word) }
         ensures count { length self.new.activations ≡ length self.old.activations }
@@ -203,6 +204,7 @@ impl World {
 }
 
 // A node of an activation gets a word.
+#[inline(always)]
 fn put_word(activations: &mut Vec<Activation>, at: NodeAt, word: u32) -> Result<(), AllocError>
     ensures value { OnOk result (activations_of activations.new.items ≡ changed_at at.activation (with_word at.node word) (activations_of
         activations.old.items)) }

@@ -1,15 +1,15 @@
 -- Which line comes at which place of a text: what is read there, and that what is printed there is read.
-use Rattle.std.proofs.Common.{◌≡◌, ℕ, ◌^◌, ◌≤◌, ◌<◌, Bool, true, false, not, cond, List, [], ◌∷◌, ◌++◌, map, Option, Some, None, refl, sym, ap, ap₂, ◌∙◌, arith}
-use Rattle.std.proofs.Common.{subst, true≢false, ◌==◌, ◌&&◌, ◌||◌, length}
-use Rattle.std.specs.Prelude.{decimal, nat_lt, nat_le, codes, is_some, take}
+use Rattle.std.proofs.Common.{◌≡◌, ℕ, ◌≤◌, Bool, true, false, cond, List, [], ◌∷◌, Option, Some, None, refl, sym, ap, ap₂, ◌∙◌}
+use Rattle.std.proofs.Common.{subst, true≢false, ◌&&◌}
+use Rattle.std.specs.Prelude.{nat_le, codes}
 use Rattle.std.specs.List.{find}
-use Rattle.std.proofs.lemmas.Bool.{leb-true, le-leb, ltb-true}
+use Rattle.std.proofs.lemmas.Bool.{leb-true, le-leb}
 use Rattle.tam_word.specs.declared.op.Op.{Op}
 use Rattle.tam_word.specs.declared.op.Op.TheVariants as op
-use Rattle.tam_word.specs.Lists.{all_of, same_bytes, where_so}
+use Rattle.tam_word.specs.Lists.{all_of, same_bytes}
 use Rattle.tam_word.specs.OpNames.{op_name}
-use Rattle.tam_word.proofs.Tests.{both-true, true-both, eq-number}
-use Rattle.tam_text.proofs.SameBytes.{same_equal, same_self}
+use Rattle.tam_word.proofs.Tests.{both-true}
+use Rattle.tam_text.proofs.SameBytes.{same_equal}
 use Rattle.tl0_code.specs.declared.code_line.CodeLine.{CodeLine}
 use Rattle.tl0_code.specs.declared.code_line.CodeLine.TheVariants.{Version, Counts, Head, Into, Begins, Does, Stops, Ends}
 use Rattle.tl0_code.specs.CodeTexts.{line_tokens}
@@ -19,12 +19,12 @@ use Rattle.tl0_text.specs.declared.verb.Verb.{Verb}
 use Rattle.tl0_text.specs.declared.verb.Verb.TheVariants as verb
 use Rattle.tl0_text.specs.declared.verb.Form.{Form}
 use Rattle.tl0_text.specs.declared.verb.Form.TheVariants as form
-use Rattle.tl0_text.specs.CodeSayings.{form_text, verb_text, forms_at, form_of, number_of, formed, line_said, numbers_in, line_of}
-use Rattle.tl0_text.specs.Reading.{is_head, is_version, counts_line, counts_of, head_of, line_with, body_of, line_at}
+use Rattle.tl0_text.specs.CodeSayings.{form_text, verb_text, forms_at, form_of, number_of, formed, line_said}
+use Rattle.tl0_text.specs.Reading.{is_version, counts_line, counts_of, line_with, body_of, line_at}
 use Rattle.tl0_text.proofs.Cutting.{all-parts, all-first}
 use Rattle.tl0_text.proofs.Forms.{line_form, line_numbers, number_tokens, IsBehindHead, line-tokens, line-made}
 use Rattle.tl0_text.specs.Printing.{is_word}
-use Rattle.tl0_text.proofs.Spelling.{number-is, number-again, tokens-read, Says, says}
+use Rattle.tl0_text.proofs.Spelling.{number-is, number-again, tokens-read, says}
 
 -- ---- forms
 

@@ -1,6 +1,6 @@
 -- Lines and tokens: a line of tokens is cut into them again, and a whole line is its tokens with spaces between.
-use Rattle.std.proofs.Common.{◌≡◌, ℕ, suc, ◌+◌, ◌≤◌, ◌<◌, ◌^◌, ◌-◌, List, [], ◌∷◌, ◌++◌, Bool, true, false, not, refl, sym, ap, ◌∙◌, arith, length, ◌==◌, ◌&&◌}
-use Rattle.std.proofs.Common.{nat_le, cond, append_assoc, true≢false, flat_map, subst}
+use Rattle.std.proofs.Common.{◌≡◌, ℕ, suc, ◌≤◌, ◌<◌, ◌^◌, ◌-◌, List, [], ◌∷◌, ◌++◌, Bool, true, false, refl, sym, ap, ◌∙◌, arith, length, ◌==◌, ◌&&◌}
+use Rattle.std.proofs.Common.{nat_le, cond, append_assoc, true≢false, flat_map}
 use Rattle.std.specs.Prelude.{decimal, nat_lt}
 use Rattle.std.specs.List.{onto_first, slice_split, join_with_byte, AllByRecursion}
 use Rattle.std.specs.Str.Parse.{AllDigits}

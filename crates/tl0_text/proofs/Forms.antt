@@ -1,5 +1,5 @@
 -- The form of a line and its numbers: which they are, and that they make the line.
-use Rattle.std.proofs.Common.{◌≡◌, ℕ, ◌^◌, Bool, true, List, [], ◌∷◌, map, Option, Some, None, refl, sym, ap, ◌∙◌, subst}
+use Rattle.std.proofs.Common.{◌≡◌, ℕ, List, [], ◌∷◌, map, Option, Some, None, refl, ap, subst}
 use Rattle.std.specs.Prelude.{decimal}
 use Rattle.tam_word.specs.Words.{signed_text}
 use Rattle.tl0_code.specs.declared.code_line.CodeLine.{CodeLine}

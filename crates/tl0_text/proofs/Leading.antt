@@ -1,7 +1,7 @@
 -- Printed lines are read one behind the other, without a fault.
-use Rattle.std.proofs.Common.{◌≡◌, ℕ, suc, ◌+◌, ◌^◌, ◌≤◌, ◌<◌, Bool, true, false, not, List, [], ◌∷◌, ◌++◌, map, flat_map, Option, Some, None, refl}
+use Rattle.std.proofs.Common.{◌≡◌, ℕ, ◌+◌, ◌^◌, ◌<◌, Bool, true, false, not, List, [], ◌∷◌, ◌++◌, map, flat_map, Option, Some, refl}
 use Rattle.std.proofs.Common.{sym, ap, ap₂, ◌∙◌, arith}
-use Rattle.std.proofs.Common.{subst, true≢false, ◌==◌, ◌||◌, length, append_assoc}
+use Rattle.std.proofs.Common.{true≢false, ◌==◌, ◌||◌, length, append_assoc}
 use Rattle.std.specs.Prelude.{decimal, codes, is_some}
 use Rattle.std.proofs.lemmas.Bool.{ltb-true}
 use Rattle.std.proofs.lemmas.Grind.{flat_map-append}
@@ -25,7 +25,7 @@ use Rattle.tl0_text.specs.declared.verb.Verb.TheVariants as verb
 use Rattle.tl0_text.specs.declared.verb.Form.{Form}
 use Rattle.tl0_text.specs.declared.verb.Form.TheVariants as form
 use Rattle.tl0_text.specs.CodeSayings.{tokens_of, is_whole, has_empty, form_text, form_of, size_of, line_said}
-use Rattle.tl0_text.specs.Reading.{Said, with_line, is_head, head_of, line_with, body_of, line_at, passes, faults_of_head, faults_by, faults_of_tokens}
+use Rattle.tl0_text.specs.Reading.{Said, with_line, is_head, head_of, line_at, passes, faults_by, faults_of_tokens}
 use Rattle.tl0_text.specs.Reading.{faults_of_line, said_by, faults_from, said_from}
 use Rattle.tl0_text.proofs.Cutting.{is_token, all-parts, all-first, decimal-token, signed-token, tokens-again, whole-again, none-empty, line-first}
 use Rattle.tl0_text.proofs.Cutting.{with-nothing}

@@ -1,21 +1,18 @@
 -- What lines say keeps the limits of a program, line by line.
-use Rattle.std.proofs.Common.{◌≡◌, ℕ, suc, ◌+◌, ◌^◌, ◌≤◌, ◌<◌, Bool, true, false, List, [], ◌∷◌, ◌++◌, map, flat_map, Option, Some, None, refl, sym}
-use Rattle.std.proofs.Common.{ap, ap₂, ◌∙◌, arith}
-use Rattle.std.proofs.Common.{subst, true≢false, ◌==◌, length, inl, inr, ◌⊎◌}
-use Rattle.std.specs.Prelude.{nat_lt, nat_le, sum_by}
+use Rattle.std.proofs.Common.{◌≡◌, ℕ, suc, ◌+◌, ◌≤◌, ◌<◌, Bool, true, false, List, [], ◌∷◌, ◌++◌, flat_map, Some, refl, sym}
+use Rattle.std.proofs.Common.{ap, ◌∙◌, arith}
+use Rattle.std.proofs.Common.{subst, ◌==◌, length}
+use Rattle.std.specs.Prelude.{sum_by}
 use Rattle.std.specs.List.{AllByRecursion}
 use Rattle.std.proofs.lemmas.Bool.{ltb-false, leb-false}
 use Rattle.std.proofs.lemmas.Grind.{flat_map-append}
-use Rattle.std.proofs.lemmas.List.{length-append}
 use Rattle.std.proofs.lemmas.List.Sums.{sum_by-append}
 use Rattle.tam_word.specs.Lists.{all_of}
 use Rattle.tam_word.proofs.Each.{all-append}
 use Rattle.tam_word.proofs.Tests.{number-eq, number-differs}
 use Rattle.tl0_code.specs.declared.code_line.CodeLine.{CodeLine}
 use Rattle.tl0_code.specs.declared.code_line.CodeLine.TheVariants.{Version, Counts, Head, Into, Begins, Does, Stops, Ends}
-use Rattle.tl0_code.specs.declared.inlet.Inlet.{Inlet}
-use Rattle.tl0_code.specs.declared.instr.Instr.{Instr}
-use Rattle.tl0_code.specs.ThreadCode.{Thread, CodeText, numbers_of, numbers_in, instr_count, IsCodeText}
+use Rattle.tl0_code.specs.ThreadCode.{Thread, CodeText, numbers_of, instr_count, IsCodeText}
 use Rattle.tl0_text.specs.declared.next.Next.{Next}
 use Rattle.tl0_text.specs.declared.next.Next.TheVariants as next
 use Rattle.tl0_text.specs.Reading.{Said, with_line, behind_code, passes}

@@ -1,40 +1,11 @@
--- What tokens say where one of them is no number, or where there are too many.
-use Rattle.std.proofs.Common.{◌≡◌, ℕ, ◌≤◌, List, [], ◌∷◌, length, get_or, Option, Some, None, refl, sym, arith, Bor}
-use Rattle.tl0_code.specs.declared.code_line.CodeLine.{CodeLine}
+-- What tokens say where there are too many.
+use Rattle.std.proofs.Common.{◌≡◌, ℕ, ◌≤◌, List, [], ◌∷◌, length, Option, Some, None, refl, sym, arith, Bor}
 use Rattle.tl0_text.specs.declared.verb.Verb.{Verb}
 use Rattle.tl0_text.specs.declared.verb.Verb.TheVariants as verb
 use Rattle.tl0_text.specs.declared.verb.Form.{Form}
 use Rattle.tl0_text.specs.declared.verb.Form.TheVariants as form
 use Rattle.tl0_text.specs.CodeSayings.{number_of, number_before, numbers_of, instr_of, does, line_of, formed, line_said}
 use Rattle.tl0_text.specs.TokensView.{texts}
-
--- no number behind another
-pub before_none : (x : Option ℕ) → number_before x None ≡ None
-before_none None = refl
-before_none (Some n) = refl
-
--- three tokens, the second of which is no number
-pub second_of_three : (f : Form) (ts : List (Bor (List ℕ))) (d : Bor (List ℕ)) → length ts ≡ 3 → number_of (get_or ts 1 d).now ≡ None
-    → None ≡ line_said f (texts ts)
-second_of_three f [] d l e = absurd (omega arith)
-second_of_three f (a ∷ []) d l e = absurd (omega arith)
-second_of_three f (a ∷ b ∷ []) d l e = absurd (omega arith)
-second_of_three f (a ∷ b ∷ c ∷ []) d l e =
-    let n : number_before (number_of b.now) (numbers_of (c.now ∷ [])) ≡ None = rw e refl in
-    rw (n, before_none (number_of a.now)) refl
-second_of_three f (a ∷ b ∷ c ∷ x ∷ ts) d l e = absurd (omega arith)
-
--- four tokens, the second of which is no number
-pub second_of_four : (f : Form) (ts : List (Bor (List ℕ))) (d : Bor (List ℕ)) → length ts ≡ 4 → number_of (get_or ts 1 d).now ≡ None
-    → None ≡ line_said f (texts ts)
-second_of_four f [] d l e = absurd (omega arith)
-second_of_four f (a ∷ []) d l e = absurd (omega arith)
-second_of_four f (a ∷ b ∷ []) d l e = absurd (omega arith)
-second_of_four f (a ∷ b ∷ c ∷ []) d l e = absurd (omega arith)
-second_of_four f (a ∷ b ∷ c ∷ x ∷ []) d l e =
-    let n : number_before (number_of b.now) (numbers_of (c.now ∷ x.now ∷ [])) ≡ None = rw e refl in
-    rw (n, before_none (number_of a.now)) refl
-second_of_four f (a ∷ b ∷ c ∷ x ∷ y ∷ ts) d l e = absurd (omega arith)
 
 -- no instruction has five numbers
 five_of_instr : (v : Verb) (a b c d e : ℕ) (ns : List ℕ) → does (instr_of v (a ∷ b ∷ c ∷ d ∷ e ∷ ns)) ≡ None

@@ -1,10 +1,9 @@
 -- The lines one by one: the faults from a line on are all faults, as long as there was none.
-use Rattle.std.proofs.Common.{◌≡◌, ℕ, suc, ◌+◌, ◌-◌, ◌≤◌, ◌<◌, Bool, true, false, cond, List, [], ◌∷◌, ◌++◌, map, flat_map, take, drop, get_or}
+use Rattle.std.proofs.Common.{◌≡◌, ℕ, ◌+◌, ◌-◌, ◌≤◌, ◌<◌, Bool, true, false, cond, List, [], ◌∷◌, ◌++◌, map, flat_map, take, drop, get_or}
 use Rattle.std.proofs.Common.{length, Option, Some, None}
 use Rattle.std.proofs.Common.{refl, sym, ap, ◌∙◌, arith, subst, ◌||◌, ◌==◌, not, true≢false}
-use Rattle.std.specs.Prelude.{option_to_list, IfNone, nat_le, is_some, count_by, MatchResult, IfErr, Result, Ok, Err}
-use Rattle.std.specs.List.{slice_split, find}
-use Rattle.std.proofs.lemmas.Bool.{leb-true}
+use Rattle.std.specs.Prelude.{option_to_list, IfNone, is_some, count_by}
+use Rattle.std.specs.List.{find}
 use Rattle.std.proofs.lemmas.List.{length-append}
 use Rattle.std.proofs.Math.Seq.{take-length}
 use Rattle.std.proofs.lemmas.List.Splits.{length-slice_split}
@@ -13,24 +12,22 @@ use Rattle.tam_word.proofs.Tests.{differs-number, number-eq}
 use Rattle.tam_text.specs.Lines.{lines_of}
 use Rattle.tl0_code.specs.declared.code_line.CodeLine.{CodeLine}
 use Rattle.tl0_code.specs.declared.code_line.CodeLine.TheVariants.{Ends}
-use Rattle.tl0_code.specs.ThreadCode.{Program, HasCodeLimits, HasProgramLimits, CodeText}
+use Rattle.tl0_code.specs.ThreadCode.{Program, HasCodeLimits, HasProgramLimits}
 use Rattle.tl0_text.specs.declared.cause.Cause0.{Cause0}
-use Rattle.tl0_text.specs.declared.cause.Cause0.TheVariants.{BadHead, BadLine, BadNumber, TooMany, Ended}
-use Rattle.tl0_text.specs.declared.cause.Refused0.{Refused0}
-use Rattle.tl0_text.specs.declared.cause.Refused0.TheVariants.{At, NoMemory}
+use Rattle.tl0_text.specs.declared.cause.Cause0.TheVariants.{BadHead, BadLine, BadNumber, TooMany}
 use Rattle.tl0_text.specs.declared.next.Next.{Next}
 use Rattle.tl0_text.specs.declared.next.Next.TheVariants as next
 use Rattle.tl0_text.specs.declared.verb.Verb.TheVariants as verb
 use Rattle.tl0_text.specs.declared.verb.Form.{Form}
 use Rattle.tl0_text.specs.declared.verb.Form.TheVariants as form
-use Rattle.tl0_text.specs.CodeSayings.{is_space, without_line_feed, tokens_of, has_empty, is_whole, form_of, size_of, size_of_verb}
-use Rattle.tl0_text.specs.Reading.{Said, Reads0, IsFirst, nothing_said, with_line, said_by, line_at, is_head, head_of, is_version, counts_of, line_with, passes}
-use Rattle.tl0_text.specs.Reading.{has_wrong_size, long_line_cause, faults_of_head, faults_by, faults_of_tokens, faults_of_line, faults_at_end}
+use Rattle.tl0_text.specs.CodeSayings.{is_space, without_line_feed, tokens_of, has_empty, is_whole, form_of, size_of}
+use Rattle.tl0_text.specs.Reading.{Said, Reads0, with_line, said_by, line_at, is_head, head_of, line_with, passes}
+use Rattle.tl0_text.specs.Reading.{has_wrong_size, long_line_cause, faults_of_tokens, faults_of_line, faults_at_end}
 use Rattle.tl0_text.specs.Reading.{faults_from, faults, said_from}
-use Rattle.tl0_text.specs.Reading.{program_said, program_of}
-use Rattle.tl0_text.specs.Sound.{IsSound, IsStage}
-use Rattle.tl0_text.proofs.Cutting.{lines-joined, with-nothing}
-use Rattle.tl0_text.proofs.Comes.{Comes, IsAt, at-is}
+use Rattle.tl0_text.specs.Reading.{program_of}
+use Rattle.tl0_text.specs.Sound.{IsSound}
+use Rattle.tl0_text.proofs.Cutting.{lines-joined}
+use Rattle.tl0_text.proofs.Comes.{Comes, at-is}
 use Rattle.tl0_text.proofs.Limits.{stage-at, sound-on}
 use Rattle.tl0_text.proofs.Sayings.{clean}
 use Rattle.tl0_text.proofs.TextsRead.{texts-read}

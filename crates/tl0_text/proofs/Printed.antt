@@ -1,5 +1,5 @@
 -- What is printed part by part is the text of the program, and its numbers make it one that can be read.
-use Rattle.std.proofs.Common.{◌≡◌, ℕ, suc, ◌^◌, ◌<◌, true, List, [], ◌∷◌, ◌++◌, map, flat_map, length, get_or, refl, sym, ap, ap₂, ◌∙◌, arith, append_assoc}
+use Rattle.std.proofs.Common.{◌≡◌, ℕ, suc, ◌^◌, ◌<◌, true, List, [], ◌∷◌, ◌++◌, map, flat_map, length, get_or, refl, sym, ap, ap₂, ◌∙◌, append_assoc}
 use Rattle.std.specs.Prelude.{decimal, codes, IfOk, Result, Ok, Err}
 use Rattle.std.specs.List.{AllByRecursion}
 use Rattle.std.proofs.lemmas.Bool.{lt-ltb, ltb-true}
@@ -7,14 +7,13 @@ use Rattle.std.proofs.lemmas.Grind.{flat_map-append}
 use Rattle.tam_word.specs.Lists.{all_of}
 use Rattle.tam_word.specs.Words.{signed_text}
 use Rattle.tam_word.specs.OpNames.{op_name}
-use Rattle.tl0_code.specs.declared.code_line.CodeLine.{CodeLine}
-use Rattle.tl0_code.specs.declared.code_line.CodeLine.TheVariants.{Version, Counts, Head, Into, Begins, Does, Stops, Ends}
+use Rattle.tl0_code.specs.declared.code_line.CodeLine.TheVariants.{Version, Counts, Into, Does, Stops, Ends}
 use Rattle.tl0_code.specs.declared.inlet.Inlet.{Inlet}
 use Rattle.tl0_code.specs.declared.instr.Instr.{Instr}
 use Rattle.tl0_code.specs.declared.instr.Instr.TheVariants as instr
-use Rattle.tl0_code.specs.ThreadCode.{Thread, CodeText, Program, HasCodeLimits, HasProgramLimits, IsCodeText, IsProgram}
+use Rattle.tl0_code.specs.ThreadCode.{Thread, CodeText, Program, HasCodeLimits, HasProgramLimits, IsCodeText}
 use Rattle.tl0_code.specs.CodeTexts.{spaced, thread_lines, text_lines, program_text}
-use Rattle.tl0_text.specs.Printing.{is_word, inlet_numbers, thread_numbers, HasWords, further, numbers_line, imm_line, instr_text, inlet_text}
+use Rattle.tl0_text.specs.Printing.{is_word, inlet_numbers, thread_numbers, HasWords, further, numbers_line, instr_text, inlet_text}
 use Rattle.tl0_text.specs.Printing.{thread_text, code_bytes}
 use Rattle.tl0_text.specs.Printing.{counts_text, printed}
 use Rattle.tl0_text.specs.Reading.{Reads0}

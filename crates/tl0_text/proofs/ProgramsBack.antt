@@ -1,6 +1,6 @@
 -- The text of a program has no fault, and its lines say that program.
-use Rattle.std.proofs.Common.{◌≡◌, ℕ, zero, suc, ◌+◌, ◌^◌, ◌≤◌, ◌<◌, Bool, true, false, List, [], ◌∷◌, ◌++◌, map, flat_map, refl, sym, ap, ◌∙◌, arith, subst}
-use Rattle.std.proofs.Common.{◌==◌, length, append_assoc}
+use Rattle.std.proofs.Common.{◌≡◌, ℕ, zero, suc, ◌+◌, ◌^◌, ◌<◌, Bool, true, false, List, [], ◌∷◌, ◌++◌, map, flat_map, refl, sym, ap, ◌∙◌, arith, subst}
+use Rattle.std.proofs.Common.{length, append_assoc}
 use Rattle.std.specs.Prelude.{slice_get}
 use Rattle.std.proofs.lemmas.Bool.{lt-ltb}
 use Rattle.std.proofs.lemmas.List.{length-append}
@@ -10,7 +10,6 @@ use Rattle.tl0_code.specs.declared.code_line.CodeLine.{CodeLine}
 use Rattle.tl0_code.specs.declared.code_line.CodeLine.TheVariants.{Version, Counts}
 use Rattle.tl0_code.specs.ThreadCode.{CodeText, Program, or_text, IsCodeText, IsProgram}
 use Rattle.tl0_code.specs.CodeTexts.{text_lines, program_lines}
-use Rattle.tl0_text.specs.declared.cause.Cause0.{Cause0}
 use Rattle.tl0_text.specs.declared.next.Next.{Next}
 use Rattle.tl0_text.specs.declared.next.Next.TheVariants as next
 use Rattle.tl0_text.specs.Reading.{Said, Reads0, nothing_said, bare, idle, behind_code, faults_from, faults, said_from, program_said, program_of}

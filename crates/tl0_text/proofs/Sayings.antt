@@ -1,35 +1,31 @@
 -- A text without a fault is the text of the program that its lines say.
-use Rattle.std.proofs.Common.{◌≡◌, ℕ, zero, suc, ◌+◌, ◌^◌, ◌≤◌, ◌<◌, Bool, true, false, not, List, [], ◌∷◌, ◌++◌, map, flat_map, Option, Some, None}
-use Rattle.std.proofs.Common.{refl, sym, ap, ap₂, ◌∙◌, arith}
+use Rattle.std.proofs.Common.{◌≡◌, ℕ, suc, ◌+◌, ◌≤◌, Bool, true, false, not, List, [], ◌∷◌, ◌++◌, map, flat_map, Option, Some, None}
+use Rattle.std.proofs.Common.{refl, sym, ap, ◌∙◌, arith}
 use Rattle.std.proofs.Common.{subst, true≢false, ◌==◌, ◌||◌, length, append_assoc}
-use Rattle.std.specs.Prelude.{nat_lt, nat_le, is_some, slice_get, sum_by}
+use Rattle.std.specs.Prelude.{is_some}
 use Rattle.std.specs.List.{AllByRecursion}
-use Rattle.std.proofs.lemmas.Bool.{ltb-true}
 use Rattle.std.proofs.lemmas.Grind.{flat_map-append}
 use Rattle.std.proofs.lemmas.List.{map-append}
-use Rattle.tam_word.specs.Lists.{all_of, where_so}
+use Rattle.tam_word.specs.Lists.{where_so}
 use Rattle.tam_word.proofs.Members.{none-left, none-right, map-none}
-use Rattle.tam_text.specs.Lines.{lines_of}
 use Rattle.tl0_code.specs.declared.code_line.CodeLine.{CodeLine}
 use Rattle.tl0_code.specs.declared.code_line.CodeLine.TheVariants.{Version, Counts, Head, Into, Begins, Does, Stops, Ends}
 use Rattle.tl0_code.specs.declared.inlet.Inlet.{Inlet}
 use Rattle.tl0_code.specs.declared.instr.Instr.{Instr}
 use Rattle.tl0_code.specs.declared.instr.Instr.TheVariants as instr
-use Rattle.tl0_code.specs.ThreadCode.{Thread, CodeText, Program, instr_count, or_text, code_text, IsCodeText, IsProgram}
-use Rattle.tl0_code.specs.CodeTexts.{line_tokens, spaced, thread_lines, text_lines, program_lines, program_text}
+use Rattle.tl0_code.specs.ThreadCode.{Thread, CodeText}
+use Rattle.tl0_code.specs.CodeTexts.{line_tokens, spaced, thread_lines, text_lines}
 use Rattle.tl0_text.specs.declared.cause.Cause0.{Cause0}
-use Rattle.tl0_text.specs.declared.cause.Cause0.TheVariants.{BadHead, BadLine, BadNumber, TooMany, Ended}
+use Rattle.tl0_text.specs.declared.cause.Cause0.TheVariants.{BadHead, BadLine, BadNumber, TooMany}
 use Rattle.tl0_text.specs.declared.next.Next.{Next}
 use Rattle.tl0_text.specs.declared.next.Next.TheVariants as next
 use Rattle.tl0_text.specs.CodeSayings.{tokens_of, is_whole, has_empty, form_of}
-use Rattle.tl0_text.specs.Reading.{Said, Reads0, nothing_said, behind_code, with_line, is_head, head_of, line_with, body_of, line_at, passes, has_wrong_size}
-use Rattle.tl0_text.specs.Reading.{faults_of_head, faults_by, faults_of_tokens, faults_of_line, faults_at_end, said_by, faults_from, faults}
-use Rattle.tl0_text.specs.Reading.{said_from, program_said, program_of}
-use Rattle.tl0_text.specs.Sound.{IsSound, IsStage, instrs_said}
-use Rattle.tl0_text.proofs.Cutting.{with-nothing, EndsOnce, lines-end, lines-joined, lines-few, line-is}
-use Rattle.tl0_text.proofs.Forms.{line_numbers}
-use Rattle.tl0_text.specs.Printing.{is_word}
-use Rattle.tl0_text.proofs.Comes.{Comes, IsAt, at-is}
+use Rattle.tl0_text.specs.Reading.{Said, behind_code, with_line, is_head, head_of, line_with, body_of, line_at, passes, has_wrong_size}
+use Rattle.tl0_text.specs.Reading.{faults_of_head, faults_of_tokens, faults_of_line, faults_at_end, said_by, faults_from}
+use Rattle.tl0_text.specs.Reading.{said_from}
+use Rattle.tl0_text.specs.Sound.{IsSound, instrs_said}
+use Rattle.tl0_text.proofs.Cutting.{with-nothing, EndsOnce, line-is}
+use Rattle.tl0_text.proofs.Comes.{Comes, at-is}
 use Rattle.tl0_text.proofs.Limits.{stage-at, sound-on, IsWorded, worded-on, instrs-on}
 
 -- ---- one line

@@ -1,6 +1,6 @@
 -- The tokens of a line and its numbers: what is read is what is spelled, and what is printed is read.
 use Rattle.std.proofs.Common.{◌≡◌, ℕ, ◌-◌, ◌%◌, ◌^◌, ◌≤◌, ◌<◌, Bool, true, false, cond, List, [], ◌∷◌, map, Option, Some, None, refl, sym, ap, ap₂, ◌∙◌, arith}
-use Rattle.std.proofs.Common.{subst, true≢false, ◌==◌, ltb, leb, length}
+use Rattle.std.proofs.Common.{subst, ◌==◌, length}
 use Rattle.std.specs.Prelude.{decimal, nat_lt, nat_le}
 use Rattle.std.proofs.lemmas.Bool.{ltb-true, lt-ltb, ltb-false, leb-true, le-leb}
 use Rattle.std.proofs.lemmas.Fmt.{decimal_is_IsNumeral, decimal_nonempty}
@@ -12,14 +12,13 @@ use Rattle.tam_word.specs.Numbers.{decimal_up_to, negative_of, some_if}
 use Rattle.tam_word.proofs.Spelled.{decimal_up_to-is, decimal_up_to-again}
 use Rattle.tam_word.proofs.Tests.{number-eq, differs-number}
 use Rattle.tl0_code.specs.declared.code_line.CodeLine.{CodeLine}
-use Rattle.tl0_text.specs.declared.verb.Verb.{Verb}
 use Rattle.tl0_text.specs.declared.verb.Verb.TheVariants as verb
 use Rattle.tl0_text.specs.declared.verb.Form.{Form}
 use Rattle.tl0_text.specs.declared.verb.Form.TheVariants as form
-use Rattle.tl0_text.specs.CodeSayings.{number_of, not_zero, printed_word, second_of, number_before, numbers_of, numbers_in, line_of, formed, line_said}
+use Rattle.tl0_text.specs.CodeSayings.{number_of, not_zero, printed_word, second_of, number_before, numbers_of, numbers_in, formed, line_said}
 use Rattle.tl0_text.specs.Printing.{is_word}
 use Rattle.tl0_text.proofs.Cutting.{all-parts, all-first}
-use Rattle.tl0_text.proofs.Forms.{line_form, line_numbers, second_text, number_tokens, IsBehindHead, IsLine, line-is}
+use Rattle.tl0_text.proofs.Forms.{line_form, line_numbers, second_text, number_tokens, IsBehindHead, line-is}
 
 -- ---- one number
 

@@ -1,26 +1,22 @@
 -- The text of a program has no fault, and its lines say that program.
-use Rattle.std.proofs.Common.{◌≡◌, ◌≢◌, ℕ, zero, suc, ◌+◌, ◌^◌, ◌≤◌, ◌<◌, Bool, true, false, List, [], ◌∷◌, ◌++◌, map, flat_map, Some, refl, sym, ap, ap₂, ◌∙◌}
-use Rattle.std.proofs.Common.{subst, ◌==◌, length, append_assoc, arith}
-use Rattle.std.specs.Prelude.{nat_lt, nat_le, slice_get}
+use Rattle.std.proofs.Common.{◌≡◌, ℕ, suc, ◌+◌, ◌^◌, ◌≤◌, ◌<◌, Bool, true, false, List, [], ◌∷◌, ◌++◌, map, flat_map, refl, sym, ap, ◌∙◌}
+use Rattle.std.proofs.Common.{subst, length, append_assoc, arith}
+use Rattle.std.specs.Prelude.{nat_lt, nat_le}
 use Rattle.std.proofs.lemmas.Bool.{lt-ltb, ltb-true, leb-true}
-use Rattle.std.proofs.lemmas.List.{map-append, length-append}
+use Rattle.std.proofs.lemmas.List.{length-append}
 use Rattle.tam_word.specs.Lists.{all_of}
-use Rattle.tam_word.proofs.Tests.{eq-number, differs-number}
-use Rattle.tam_text.specs.Lines.{lines_of}
-use Rattle.tl0_code.specs.declared.code_line.CodeLine.{CodeLine}
-use Rattle.tl0_code.specs.declared.code_line.CodeLine.TheVariants.{Version, Counts, Head, Into, Begins, Does, Stops, Ends}
+use Rattle.tl0_code.specs.declared.code_line.CodeLine.TheVariants.{Head, Into, Begins, Does, Stops, Ends}
 use Rattle.tl0_code.specs.declared.inlet.Inlet.{Inlet}
 use Rattle.tl0_code.specs.declared.instr.Instr.{Instr}
-use Rattle.tl0_code.specs.ThreadCode.{Thread, CodeText, Program, numbers_of, numbers_in, or_text, code_text, IsCodeText, IsProgram}
-use Rattle.tl0_code.specs.CodeTexts.{thread_lines, text_lines, program_lines, program_text}
+use Rattle.tl0_code.specs.ThreadCode.{Thread, CodeText, numbers_of, IsCodeText}
+use Rattle.tl0_code.specs.CodeTexts.{thread_lines, text_lines}
 use Rattle.tl0_text.specs.declared.next.Next.{Next}
 use Rattle.tl0_text.specs.declared.next.Next.TheVariants as next
-use Rattle.tl0_text.specs.Reading.{Said, Reads0, nothing_said, bare, idle, behind_code, faults, said_from, program_said, program_of}
+use Rattle.tl0_text.specs.Reading.{Said, bare, idle, behind_code}
 use Rattle.tl0_text.proofs.Cutting.{all-parts, all-first, all-prefix, all-back, with-nothing}
 use Rattle.tl0_text.specs.Printing.{is_word}
 use Rattle.tl0_text.specs.Printing.{inlet_numbers, thread_numbers}
-use Rattle.tl0_text.proofs.Sayings.{line_text}
-use Rattle.tl0_text.proofs.Leading.{Leads, NoFaults, leads-none, leads-one, leads-then}
+use Rattle.tl0_text.proofs.Leading.{Leads, leads-none, leads-one, leads-then}
 
 -- a test of order that fails
 not-above : (a b : ℕ) → b ≤ a → nat_lt a b ≡ false

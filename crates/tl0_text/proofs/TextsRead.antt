@@ -1,20 +1,20 @@
 -- A text without a fault reads as the program that its lines say.
-use Rattle.std.proofs.Common.{◌≡◌, ℕ, zero, suc, ◌+◌, ◌^◌, ◌≤◌, ◌<◌, List, [], ◌∷◌, ◌++◌, map, flat_map, refl, sym, ap, ◌∙◌, arith, subst, length}
-use Rattle.std.specs.Prelude.{slice_get, sum_by}
+use Rattle.std.proofs.Common.{◌≡◌, ℕ, zero, suc, ◌^◌, ◌≤◌, ◌<◌, List, [], ◌∷◌, flat_map, refl, sym, ap, ◌∙◌, arith, length}
+use Rattle.std.specs.Prelude.{slice_get}
 use Rattle.std.specs.List.{AllByRecursion}
 use Rattle.std.proofs.lemmas.Bool.{ltb-true}
 use Rattle.tam_text.specs.Lines.{lines_of}
 use Rattle.tl0_code.specs.declared.code_line.CodeLine.{CodeLine}
 use Rattle.tl0_code.specs.declared.code_line.CodeLine.TheVariants.{Version, Counts}
-use Rattle.tl0_code.specs.ThreadCode.{CodeText, Program, instr_count, or_text, code_text, IsCodeText, IsProgram}
-use Rattle.tl0_code.specs.CodeTexts.{text_lines, program_lines, program_text}
+use Rattle.tl0_code.specs.ThreadCode.{CodeText, or_text, IsCodeText, IsProgram}
+use Rattle.tl0_code.specs.CodeTexts.{text_lines, program_lines}
 use Rattle.tl0_text.specs.declared.next.Next.{Next}
 use Rattle.tl0_text.specs.declared.next.Next.TheVariants as next
-use Rattle.tl0_text.specs.Reading.{Said, Reads0, nothing_said, faults, said_from, program_said, program_of}
-use Rattle.tl0_text.specs.Sound.{IsSound, IsStage, instrs_said}
+use Rattle.tl0_text.specs.Reading.{Said, Reads0, nothing_said, faults, said_from, program_of}
+use Rattle.tl0_text.specs.Sound.{IsSound}
 use Rattle.tl0_text.proofs.Cutting.{lines-end, lines-joined, lines-few}
 use Rattle.tl0_text.proofs.Limits.{stage-at, IsWorded}
-use Rattle.tl0_text.proofs.Sayings.{line_text, text_said, said_lines, Outcome, outcome}
+use Rattle.tl0_text.proofs.Sayings.{line_text, said_lines, Outcome, outcome}
 
 -- before the first line
 pub first-sound : IsSound nothing_said

@@ -1,7 +1,6 @@
 -- What is said keeps the limits of a program all along.
-use Rattle.std.specs.Prelude.{ℕ, ◌^◌, ◌+◌, ◌≡◌, ◌≤◌, ◌<◌, true, nat_lt, length, [], sum_by}
-use Rattle.tam_word.specs.Lists.{all_of}
-use Rattle.tl0_code.specs.ThreadCode.{Thread, CodeText, instr_count}
+use Rattle.std.specs.Prelude.{ℕ, ◌+◌, ◌≡◌, ◌≤◌, ◌<◌, length, [], sum_by}
+use Rattle.tl0_code.specs.ThreadCode.{instr_count}
 use Rattle.tl0_text.specs.declared.next.Next.{Next}
 use Rattle.tl0_text.specs.declared.next.Next.TheVariants as next
 use Rattle.tl0_text.specs.Reading.{Said}

@@ -1,6 +1,4 @@
 -- What the reader keeps, without where it lies.
-use Rattle.std.specs.Prelude.{ℕ, List, map}
-use Rattle.std.proofs.Common.{Bor}
 use Rattle.tl0_code.specs.ThreadCode.{Thread, CodeText}
 use Rattle.tl0_text.specs.declared.draft.CodeDraft.{CodeDraft}
 use Rattle.tl0_text.specs.declared.draft.ThreadDraft.{ThreadDraft}

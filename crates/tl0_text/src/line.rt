@@ -139,6 +139,33 @@ fn with_four(form: Form, a: u32, b: u32, c: u32, d: u32) -> Option<CodeLine>
     Some(CodeLine::Does { instr })
 }
 
+// The line of a form with two tokens behind its word.
+fn said_with_two(form: Form, a: &[u8], b: &[u8]) -> Option<CodeLine>
+    ensures value { result ≡ line_said form (a.now ∷ b.now ∷ []) }
+{
+    with_two(form, number_of(a)?, second_of(form, b)?)
+}
+
+// With three.
+fn said_with_three(form: Form, a: &[u8], b: &[u8], c: &[u8]) -> Option<CodeLine>
+    ensures value { result ≡ line_said form (a.now ∷ b.now ∷ c.now ∷ []) }
+{
+    with_three(form, number_of(a)?, number_of(b)?, number_of(c)?)
+}
+
+// With four.
+fn said_with_four(form: Form, a: &[u8], b: &[u8], c: &[u8], d: &[u8]) -> Option<CodeLine>
+    ensures value { result ≡ line_said form (a.now ∷ b.now ∷ c.now ∷ d.now ∷ []) }
+{
+    with_four(
+        form,
+        number_of(a)?,
+        number_of(b)?,
+        number_of(c)?,
+        number_of(d)?,
+    )
+}
+
 /// The line of a form with these tokens behind its word.
 pub fn line_said(form: Form, tokens: &[&[u8]]) -> Option<CodeLine>
     ensures value { result ≡ line_said form (texts tokens.now) }
@@ -146,15 +173,9 @@ pub fn line_said(form: Form, tokens: &[&[u8]]) -> Option<CodeLine>
     match tokens {
         [] => with_none(form),
         [a] => with_one(form, number_of(a)?),
-        [a, b] => with_two(form, number_of(a)?, second_of(form, b)?),
-        [a, b, c] => with_three(form, number_of(a)?, number_of(b)?, number_of(c)?),
-        [a, b, c, d] => with_four(
-            form,
-            number_of(a)?,
-            number_of(b)?,
-            number_of(c)?,
-            number_of(d)?,
-        ),
+        [a, b] => said_with_two(form, a, b),
+        [a, b, c] => said_with_three(form, a, b, c),
+        [a, b, c, d] => said_with_four(form, a, b, c, d),
         [_, _, _, _, _, ..] => None,
     }
 }

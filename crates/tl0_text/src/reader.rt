@@ -1,10 +1,10 @@
 // The program of a text.
-ghost use Rattle.std.specs.Prelude.{◌≡◌, ◌≤◌, ◌<◌, ◌∷◌, ◌+◌, [], IfOk, IfErr, IfNone, OnOk, MatchResult, Some, take, length, option_to_list};
+ghost use Rattle.std.specs.Prelude.{◌≡◌, ◌≤◌, ◌<◌, ◌∷◌, ◌+◌, ◌||◌, not, [], IfOk, IfErr, IfNone, OnOk, MatchResult, Some, take, length, option_to_list};
 ghost use Rattle.tl0_code.specs.ThreadCode.{Program};
 ghost use Rattle.tl0_text.specs.declared.cause.Refused0.TheVariants.{NoMemory};
-ghost use Rattle.tl0_text.specs.CodeSayings.{tokens_of, form_of, line_said};
+ghost use Rattle.tl0_text.specs.CodeSayings.{tokens_of, has_empty, is_whole, form_of, line_said};
 ghost use Rattle.tl0_text.specs.Reading.{Reads0, IsFirst, faults, faults_of_head, faults_of_body, faults_of_line, faults_at_end, head_of, body_of, line_at};
-ghost use Rattle.tl0_text.specs.Reading.{is_head, is_version, counts_of, counts_line, line_with, faults_by, long_line_cause, said_by};
+ghost use Rattle.tl0_text.specs.Reading.{is_head, is_version, counts_of, counts_line, has_wrong_size, line_with, faults_by, long_line_cause, said_by};
 ghost use Rattle.tl0_text.specs.Sound.{IsSound};
 ghost use Rattle.tl0_text.specs.TextView.{said};
 ghost use Rattle.tl0_text.specs.TokensView.{texts};
@@ -100,6 +100,13 @@ fn head_line(next: Next, line: &[u8], tokens: &[&[u8]]) -> Result<CodeLine, Caus
     Ok(said)
 }
 
+// Whether the number of tokens behind the word is another, a token is empty, or no LF ends the line.
+fn is_bad_line(line: &[u8], tokens: &[&[u8]], form: Form, others: &[&[u8]]) -> bool
+    ensures value { result ≡ has_wrong_size (Some form) (texts others.now) || (has_empty (texts tokens.now) || not (is_whole line.now)) }
+{
+    others.len() != size_of(form) || has_empty(tokens) || !is_whole(line)
+}
+
 // What a line says by its form and the tokens behind its word, or what is wrong with it.
 fn formed_line(
     pass: &Pass,
@@ -115,13 +122,7 @@ fn formed_line(
     let Some(form) = form else {
         return Err(Cause0::BadLine);
     };
-    if others.len() != size_of(form) {
-        return Err(Cause0::BadLine);
-    }
-    if has_empty(tokens) {
-        return Err(Cause0::BadLine);
-    }
-    if !is_whole(line) {
+    if is_bad_line(line, tokens, form, others) {
         return Err(Cause0::BadLine);
     }
     let Some(said) = line_said(form, others) else {

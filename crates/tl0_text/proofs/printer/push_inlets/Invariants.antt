@@ -1,8 +1,7 @@
 -- What is printed of the rest goes behind what was printed; and the numbers that were printed have 32 bits.
 use Rattle.std.proofs.Common.{◌≡◌, ◌++◌, length, true, flat_map}
 use Rattle.tam_word.specs.Lists.{all_of}
-use Rattle.tl0_code.specs.ThreadCode.{numbers_of}
-use Rattle.tl0_text.specs.Printing.{is_word, inlet_numbers, thread_numbers, instr_text, inlet_text, thread_text}
+use Rattle.tl0_text.specs.Printing.{is_word, inlet_numbers, inlet_text}
 use Rattle.tl0_text.proofs.printer.push_inlets.Given as goal
 
 abbrev pub invariant-loop-rest : goal.invariant-loop-rest

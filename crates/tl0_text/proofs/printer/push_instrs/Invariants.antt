@@ -2,7 +2,7 @@
 use Rattle.std.proofs.Common.{◌≡◌, ◌++◌, length, true, flat_map}
 use Rattle.tam_word.specs.Lists.{all_of}
 use Rattle.tl0_code.specs.ThreadCode.{numbers_of}
-use Rattle.tl0_text.specs.Printing.{is_word, inlet_numbers, thread_numbers, instr_text, inlet_text, thread_text}
+use Rattle.tl0_text.specs.Printing.{is_word, instr_text}
 use Rattle.tl0_text.proofs.printer.push_instrs.Given as goal
 
 abbrev pub invariant-loop-rest : goal.invariant-loop-rest

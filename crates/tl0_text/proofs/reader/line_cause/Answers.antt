@@ -1,5 +1,5 @@
 -- A line with too many tokens; and a code that ends keeps its limits.
-use Rattle.std.proofs.Common.{◌∷◌, [], ap, sym, ◌∙◌, arith}
+use Rattle.std.proofs.Common.{◌∷◌, [], ap, sym, ◌∙◌}
 use Rattle.std.proofs.lemmas.Bool.{leb-true}
 use Rattle.std.specs.Prelude.{count_by}
 use Rattle.tl0_text.specs.CodeSayings.{is_space, without_line_feed}

@@ -1,5 +1,5 @@
 -- A form that doesn't have the word is passed.
-use Rattle.std.proofs.Common.{◌≡◌, get_or, sym, ◌∙◌, ap, arith}
+use Rattle.std.proofs.Common.{sym, ◌∙◌, ap, arith}
 use Rattle.tam_word.specs.Lists.{same_bytes}
 use Rattle.tl0_text.specs.declared.verb.Form.TheVariants.{Code}
 use Rattle.tl0_text.specs.CodeSayings.{form_text}

@@ -1,5 +1,5 @@
 // A branch.
-ghost use Rattle.std.specs.Prelude.{◌≡◌, Some};
+ghost use Rattle.std.specs.Prelude.{◌≡◌};
 ghost use Rattle.rv_inst.specs.Rows.{branch_funct};
 ghost use Rattle.rv_inst.specs.Lookup.{branch_name_of};
 
@@ -39,16 +39,8 @@ impl BranchName {
     pub(crate) fn row(self) -> BranchRow
         ensures own { result.name ≡ self }
         ensures value { result.funct3 ≡ branch_funct self }
-        ensures decodes { branch_name_of result.funct3 ≡ Some self }
     {
-        match self {
-            BranchName::Beq => BRANCH_ROWS[0],
-            BranchName::Bne => BRANCH_ROWS[1],
-            BranchName::Blt => BRANCH_ROWS[2],
-            BranchName::Bge => BRANCH_ROWS[3],
-            BranchName::Bltu => BRANCH_ROWS[4],
-            BranchName::Bgeu => BRANCH_ROWS[5],
-        }
+        BRANCH_ROWS[self as usize]
     }
 
     /// The instruction with this function field.

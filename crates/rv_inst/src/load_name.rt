@@ -1,5 +1,5 @@
 // A load.
-ghost use Rattle.std.specs.Prelude.{◌≡◌, Some};
+ghost use Rattle.std.specs.Prelude.{◌≡◌};
 ghost use Rattle.rv_inst.specs.Rows.{load_funct};
 ghost use Rattle.rv_inst.specs.Lookup.{load_name_of};
 
@@ -37,15 +37,8 @@ impl LoadName {
     pub(crate) fn row(self) -> LoadRow
         ensures own { result.name ≡ self }
         ensures value { result.funct3 ≡ load_funct self }
-        ensures decodes { load_name_of result.funct3 ≡ Some self }
     {
-        match self {
-            LoadName::Lb => LOAD_ROWS[0],
-            LoadName::Lh => LOAD_ROWS[1],
-            LoadName::Lw => LOAD_ROWS[2],
-            LoadName::Lbu => LOAD_ROWS[3],
-            LoadName::Lhu => LOAD_ROWS[4],
-        }
+        LOAD_ROWS[self as usize]
     }
 
     /// The instruction with this function field.

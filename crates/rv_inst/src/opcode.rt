@@ -1,5 +1,5 @@
 // The opcode of a word: its low 7 bits.
-ghost use Rattle.std.specs.Prelude.{◌≡◌, Some};
+ghost use Rattle.std.specs.Prelude.{◌≡◌};
 ghost use Rattle.rv_inst.specs.Rows.{code};
 ghost use Rattle.rv_inst.specs.Lookup.{opcode_of};
 
@@ -49,7 +49,6 @@ impl Opcode {
     pub(crate) fn row(self) -> OpcodeRow
         ensures own { result.opcode ≡ self }
         ensures value { result.code ≡ code self }
-        ensures decodes { opcode_of result.code ≡ Some self }
     {
         match self {
             Opcode::Load => OPCODE_ROWS[0],

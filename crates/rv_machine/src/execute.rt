@@ -72,7 +72,12 @@ pub fn carry_out(rv: &mut Rv, pc: WordAddress, inst: &KeptInst) -> Next
         Operation::Fence => Next::On(pc.next()),
         Operation::Ecall => Next::Call,
         Operation::Ebreak => Next::Trap(TrapCause::Break),
-        Operation::Unknown => rv.next_anew(pc),
+        // Taken apart, so that what the other instructions give need not lie in memory, where that call writes its own.
+        Operation::Unknown => match rv.next_anew(pc) {
+            Next::On(to) => Next::On(to),
+            Next::Call => Next::Call,
+            Next::Trap(cause) => Next::Trap(cause),
+        },
     }
 }
 

@@ -1,7 +1,7 @@
 #!/usr/bin/env python3
 """Makes lists of events over small graphs, and tells by the rules of journals which of them are journals.
 
-usage: random_journals.py > crates/tam_judge/src/journal/random.rt
+usage: random_journals.py > crates/tam_judge_tests/src/random_journals.rt
        random_journals.py --check
 
 With `--check` it compares the table with the one in the crate. Half of the lists are walks along the rules, the others
@@ -20,7 +20,7 @@ import os
 import random
 import sys
 
-TABLE = os.path.join(os.path.dirname(os.path.dirname(os.path.abspath(__file__))), "crates", "tam_judge", "src", "journal", "random.rt")
+TABLE = os.path.join(os.path.dirname(os.path.dirname(os.path.abspath(__file__))), "crates", "tam_judge_tests", "src", "random_journals.rt")
 
 SUM = ["a = param 0", "b = param 1", "s = add a b", "result 0 s"]
 WAITING = ["n = const 1", "A = alloc n", "z = const 0", "v = fetch A z", "x = param 0", "y = add x n", "result 0 v", "result 1 y"]

@@ -6,5 +6,3 @@ mod CheckedClasses
 mod CheckedDeliveries
 mod CheckedJournals
 mod MachineStates
-pub mod SmallGraphs
-pub mod WholeBlocks

@@ -7,11 +7,6 @@ ghost use Rattle.tam_flow.specs.Journals.{Run, Deliver, is_legal, block_of_act, 
 ghost use Rattle.tam_judge.specs.Machines.{state_of};
 ghost use Rattle.tam_judge.specs.CheckedEvents.{event_of, events_of, partitions_of, BlocksStand, IsAsked, Makes};
 
-#[cfg(test)]
-mod random;
-#[cfg(test)]
-mod tests;
-
 use crate::class_run::{fire_places, has_run, inlets_have_words, those_before_ran};
 use crate::firing_order::firing_order;
 use crate::lists::has;

@@ -3,9 +3,6 @@ ghost use Rattle.std.specs.Prelude.{◌≡◌, IfOk};
 ghost use Rattle.tam_split.specs.PartitionLaws.{IsPartition};
 ghost use Rattle.tam_split.specs.Partitions.{is_valid};
 
-#[cfg(test)]
-mod tests;
-
 use std::alloc::Global;
 use tam_edge::NoMemory;
 use tam_quotient::{is_valid, quotient};

@@ -1,0 +1,2 @@
+mod SmallGraphs
+mod WholeBlocks

@@ -1,0 +1,178 @@
+// Lists of events, and whether each is a journal. Written by tests/random_journals.py, by rules of its own.
+//
+// A digit delivers the message of that number. A capital runs a class of the body of the root, A the first. A letter from a on runs one
+// of a second block, and a letter from n on one of a second activation, which aren't there.
+
+/// The sum of 2 and 3 in one class.
+#[rattlefmt::skip]
+pub(super) const SUM_IN_ONE: [(&[u8], bool); 24] = [
+    (b"1", true),
+    (b"10A2", true),
+    (b"01A2", true),
+    (b"01", true),
+    (b"01A", true),
+    (b"0", true),
+    (b"", true),
+    (b"10A", true),
+    (b"10", true),
+    (b"102A", false),
+    (b"1A2", false),
+    (b"01n2", false),
+    (b"61A2", false),
+    (b"01A0", false),
+    (b"0A12", false),
+    (b"10n", false),
+    (b"01A1", false),
+    (b"1A02", false),
+    (b"0A2", false),
+    (b"10a2", false),
+    (b"10b2", false),
+    (b"010A2", false),
+    (b"201A", false),
+    (b"01a2", false),
+];
+
+/// The sum of 2 and 3, each vertex a class.
+#[rattlefmt::skip]
+pub(super) const SUM_IN_SINGLES: [(&[u8], bool); 24] = [
+    (b"0A1BCD2", true),
+    (b"1B0ACD2", true),
+    (b"01ABCD2", true),
+    (b"01BACD2", true),
+    (b"0A1BCD", true),
+    (b"", true),
+    (b"10BACD2", true),
+    (b"0A", true),
+    (b"10B", true),
+    (b"1B0AC", true),
+    (b"10ABCD2", true),
+    (b"01", true),
+    (b"0A18CD2", false),
+    (b"1BB", false),
+    (b"1BAC0D2", false),
+    (b"0n1BCD2", false),
+    (b"10BBACD2", false),
+    (b"10ACDB", false),
+    (b"10BAD", false),
+    (b"01ABcD2", false),
+    (b"05", false),
+    (b"10ABBCD2", false),
+    (b"1B0CAD2", false),
+    (b"0A1Bp", false),
+];
+
+/// A cell that is never written, in four classes.
+#[rattlefmt::skip]
+pub(super) const WAITING_IN_FOUR: [(&[u8], bool); 24] = [
+    (b"0A1D32B4", true),
+    (b"A10D23B4", true),
+    (b"0AD13", true),
+    (b"0AD", true),
+    (b"A0D13B42", true),
+    (b"A102BD34", true),
+    (b"A012B3D4", true),
+    (b"A102BD43", true),
+    (b"A0D132B4", true),
+    (b"A102DB43", true),
+    (b"0A12DB43", true),
+    (b"A01", true),
+    (b"0An", false),
+    (b"A1203D3B", false),
+    (b"A0D2134B", false),
+    (b"A12B30d4", false),
+    (b"A1A0D2B34", false),
+    (b"0A12B4D3", false),
+    (b"A12BD34", false),
+    (b"A10q32B4", false),
+    (b"0E1", false),
+    (b"0AAD123B4", false),
+    (b"1A0D", false),
+    (b"n120BD4", false),
+];
+
+/// A cell that is never written, each vertex a class.
+#[rattlefmt::skip]
+pub(super) const WAITING_IN_SINGLES: [(&[u8], bool); 24] = [
+    (b"DA", true),
+    (b"", true),
+    (b"DA0BGHJ123CE4", true),
+    (b"A0BGDH1J2C3E", true),
+    (b"A0DBGH12CE3J4", true),
+    (b"AD0GBHJ213C", true),
+    (b"DA0BG12HJ3CE", true),
+    (b"0DGAHBJ123CE4", true),
+    (b"DA0B12", true),
+    (b"0GDAHJ1B23CE4", true),
+    (b"DA0BG1H2CEJ43", true),
+    (b"0ADBG", true),
+    (b"G0ABG1H2J3CE", false),
+    (b"DAB0B1GHJ23", false),
+    (b"DG0A", false),
+    (b"d0AGHJ1B23CE4", false),
+    (b"00AG", false),
+    (b"0DAHG", false),
+    (b"B", false),
+    (b"aBD10GH", false),
+    (b"DA0B1EH2CE3J4", false),
+    (b"0DD", false),
+    (b"DAG0B1H2J3CE4", false),
+    (b"A0DB12CE3tHJ4", false),
+];
+
+/// A cell that is written twice, in four classes.
+#[rattlefmt::skip]
+pub(super) const WRITING_IN_FOUR: [(&[u8], bool); 24] = [
+    (b"0A12B3C45", true),
+    (b"A012BC543", true),
+    (b"A012BC5", true),
+    (b"0A12B4C53", true),
+    (b"A012B4C53", true),
+    (b"A120B4C56D73", true),
+    (b"A102B3C46D7", true),
+    (b"0A12BC5", true),
+    (b"0A12B4C56", true),
+    (b"A012B43C6", true),
+    (b"0A12B34C6", true),
+    (b"A012B435DC7", true),
+    (b"A12C0B3C", false),
+    (b"CA102B346", false),
+    (b"A02B3C5", false),
+    (b"0n", false),
+    (b"A120743", false),
+    (b"A012B435D6C77", false),
+    (b"0A124B3C6", false),
+    (b"0a", false),
+    (b"0A12BC4365D", false),
+    (b"0A12BC5436", false),
+    (b"A102BC3456", false),
+    (b"A012B3C46D57", false),
+];
+
+/// A store outside an array, each vertex a class.
+#[rattlefmt::skip]
+pub(super) const WRITING_IN_SINGLES: [(&[u8], bool); 24] = [
+    (b"A", true),
+    (b"A0DB1E2CHFG435", true),
+    (b"D0EAB12CG3", true),
+    (b"AD0EB12", true),
+    (b"0EABD12", true),
+    (b"DAB10", true),
+    (b"DA0B1", true),
+    (b"A0BE12", true),
+    (b"DA0EB12", true),
+    (b"D0ABE12CH3GF4", true),
+    (b"A0EBD12C", true),
+    (b"0DEAB12CF", true),
+    (b"A0EB1E", false),
+    (b"DAEB12C0", false),
+    (b"EDAB12CFH345", false),
+    (b"0AEDB12Cg3", false),
+    (b"D0AF", false),
+    (b"0AEDFB12CF", false),
+    (b"BA10", false),
+    (b"dAB", false),
+    (b"AB01DE2CFG43", false),
+    (b"ABD01E2CHGF536I4J", false),
+    (b"AB01D2ECH3F45GIJ67", false),
+    (b"0ABED12CF3G4H", false),
+];

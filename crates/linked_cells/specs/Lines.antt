@@ -1,8 +1,8 @@
 -- Lines: lists of cells of which the root, the last cell and the length are known.
-use Rattle.std.specs.Prelude.{ℕ, ◌≡◌, ◌<◌, Bool, nat_eq, List, ◌∷◌, map, length}
+use Rattle.std.specs.Prelude.{ℕ, ◌≡◌, ◌<◌, Bool, cond, nat_eq, List, ◌∷◌, map, length}
 use Rattle.std.specs.List.{AllByRecursion}
 use Rattle.linked_cells.specs.declared.line.Line.{Line}
-use Rattle.linked_cells.specs.Cells.{LinkedCell, CellRow, cell_at}
+use Rattle.linked_cells.specs.Cells.{LinkedCell, CellRow, cell_at, unlinked}
 use Rattle.linked_cells.specs.Lists.{behind, last_from, IsDistinct}
 
 -- the cells in a line, the first one first
@@ -16,6 +16,10 @@ numbers_of cells line = map (λ i. (cell_at cells i).second) (items_of cells lin
 -- no cell is in it
 abbrev pub is_empty_line : Line → Bool
 is_empty_line line = nat_eq line.count 0
+
+-- the first one is taken out, if there is one
+abbrev pub without_first : List LinkedCell → Line → List LinkedCell
+without_first cells line = cond (is_empty_line line) cells (unlinked cells line.root)
 
 -- a line has these cells: each is there, none is the root or comes twice, and the last one is known
 pub record IsLine (cells : List LinkedCell) (line : Line) (items : List ℕ) : Type 0 where

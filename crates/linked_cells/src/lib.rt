@@ -1,7 +1,8 @@
 //! Cells of two words and a raw link in one block of memory, and the lists through them.
 //!
 //! Over no other crate of ours but the one that has `NoMemory`. The frames of activations stand on this crate.
-//! Read `specs/Cells.antt` and `specs/Lists.antt`: what the calls do to the cells, and to lists. Then `src/cell_table.rt`.
+//! Read `specs/Cells.antt`, `specs/Lists.antt` and `specs/Lines.antt`: what the calls do to the
+//! cells, and to lists. Then `src/cell_table.rt` and `src/line.rt`.
 //!
 //! A cell takes 16 bytes, and cell i begins 16 * i bytes into the block:
 //!
@@ -10,8 +11,9 @@
 //!     | first  | second | link           |     -> the address of another cell of the block, or of this one
 //! ```
 //!
-//! The block is taken by `CellTable::new` and is not cleared: a cell is written when it is added, and only then can be read. No link is ever tested: the
-//! caller knows how many cells are in a list, and of an empty one it asks none. Pointers stand in the five functions of `src/memory.rt` alone.
+//! The block is taken by `CellTable::new` and is not cleared: a cell is written when it is added, and only then can be read. No link is ever tested: a
+//! line counts its cells, and of other lists the caller knows how many cells there are. Pointers are made and followed in the five functions of `src/memory.rt`
+//! alone; all else copies an address as it stands.
 #![tactic(auto)]
 
 mod cell_table;

@@ -1,7 +1,8 @@
 // A list of cells that is known by its root, its last cell and its length.
 ghost use Rattle.std.specs.Prelude.{◌≡◌, ◌+◌, ◌^◌, ◌<◌, ◌∷◌, ◌++◌, [], length, drop, slice_get};
 ghost use Rattle.linked_cells.specs.Lists.{from, IsApart, StaysApart, StaysApartFromBoth};
-ghost use Rattle.linked_cells.specs.Lines.{IsLine, KeepsWords, items_of, numbers_of, is_empty_line};
+ghost use Rattle.linked_cells.specs.Cells.{linked};
+ghost use Rattle.linked_cells.specs.Lines.{IsLine, KeepsWords, items_of, numbers_of, is_empty_line, without_first};
 
 use crate::CellTable;
 
@@ -46,6 +47,7 @@ impl Line {
         requires few { self.old.count + 1 < 2 ^ 32 }
         ensures root { self.new.root ≡ self.old.root }
         ensures line { IsLine table.new.cells self.new (items_of table.old.cells self.old ++ i ∷ []) }
+        ensures cells { table.new ≡ record table.old { cells = linked table.old.cells self.old.last i } }
         ensures words { KeepsWords table.old table.new }
         ensures kept { StaysApartFromBoth table.old.cells table.new.cells self.old.last i }
     {
@@ -63,6 +65,7 @@ impl Line {
         requires few { self.old.count + 1 < 2 ^ 32 }
         ensures root { self.new.root ≡ self.old.root }
         ensures line { IsLine table.new.cells self.new (i ∷ items_of table.old.cells self.old) }
+        ensures cells { table.new ≡ record table.old { cells = linked table.old.cells self.old.root i } }
         ensures words { KeepsWords table.old table.new }
         ensures kept { StaysApartFromBoth table.old.cells table.new.cells self.old.root i }
     {
@@ -80,6 +83,7 @@ impl Line {
         ensures value { result ≡ slice_get (numbers_of table.old.cells self.old) 0 }
         ensures root { self.new.root ≡ self.old.root }
         ensures line { IsLine table.new.cells self.new (drop 1 (items_of table.old.cells self.old)) }
+        ensures cells { table.new ≡ record table.old { cells = without_first table.old.cells self.old } }
         ensures words { KeepsWords table.old table.new }
         ensures kept { StaysApart table.old.cells table.new.cells self.old.root }
     {

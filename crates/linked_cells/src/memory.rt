@@ -1,4 +1,4 @@
-// A block of memory as a row of places, each empty or holding a value. No other file touches a pointer.
+// A block of memory as a row of places, each empty or holding a value. No other file makes or follows a pointer.
 ghost use Rattle.std.specs.Prelude.{◌≡◌, ℕ, ◌<◌, List, Option, Some, None, length, replicate, get_or, slice_set, IfOk, ⊤};
 ghost use Rattle.std.specs.Vec.Ownership.{FitsInBlock};
 ghost use base.Fml.{ftrue};

@@ -8,7 +8,8 @@ use Rattle.frame_tables.specs.FrameTables.{Frame, no_frame}
 use Rattle.tam_frames.specs.declared.frame_cells.FrameCells.TheInside.{Inside}
 use Rattle.tam_frames.specs.HeldFrames.{HeldFrames, held_at, held_with}
 use Rattle.linked_cells.specs.Lines.{numbers_of}
-use Rattle.tam_frames.specs.FrameCells.{CellFrames, AreHeld, HoldsFrame, HoldLines, held_frames, shape_of, is_set, frame_in, frame_width, start_of, second_header, listed}
+use Rattle.tam_frames.specs.FrameCells.{CellFrames, AreHeld, HoldsFrame, HoldLines, held_frames, shape_of, is_set, frame_in, frame_width, start_of}
+use Rattle.tam_frames.specs.FrameCells.{second_header, listed}
 use Rattle.tam_frames.proofs.ListedLemmas.{length-listed, get_or-listed, DifferAt, listed-set}
 use Rattle.tam_frames.proofs.LineHolds.{KeepsLines, AreNumbered, numbers-are, lines-stay, lines-own}
 use Rattle.tam_frames.proofs.CellLists.{ChangesFrame}

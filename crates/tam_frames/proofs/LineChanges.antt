@@ -9,7 +9,8 @@ use Rattle.linked_cells.specs.Lists.{behind, from, IsApart}
 use Rattle.linked_cells.specs.Lines.{KeepsWords, items_of, numbers_of}
 use Rattle.linked_cells.proofs.LineLemmas.{last-is, last-all}
 use Rattle.frame_tables.specs.FrameTables.{Frame, no_frame, is_queued}
-use Rattle.tam_frames.specs.FrameCells.{CellFrames, Shape, AreHeld, HoldsFrame, HoldsLine, HoldLines, held_frames, shape_of, is_set, frame_in, frame_width, start_of}
+use Rattle.tam_frames.specs.FrameCells.{CellFrames, Shape, AreHeld, HoldsFrame, HoldsLine, HoldLines, held_frames, shape_of, is_set, frame_in}
+use Rattle.tam_frames.specs.FrameCells.{frame_width, start_of}
 use Rattle.tam_frames.specs.FrameCells.{second_header, thread_cell, slot_cell, listed}
 use Rattle.tam_frames.proofs.CellLists.{AllByRecursion-weaker, IsApart-all}
 use Rattle.tam_frames.proofs.FrameCellLemmas.{frame-fits}

@@ -1,5 +1,6 @@
 -- Lines of frames, where a frame joins one or leaves it.
-use Rattle.std.proofs.Common.{◌≡◌, ◌≢◌, ◌∙◌, sym, ap, subst, refl, ℕ, zero, suc, ◌+◌, ◌<◌, ◌≤◌, ◌^◌, true, false, true≢false, ◌==◌, List, [], ◌∷◌, ◌++◌, length, map, drop, arith, tests}
+use Rattle.std.proofs.Common.{◌≡◌, ◌≢◌, ◌∙◌, sym, ap, subst, refl, ℕ, zero, suc, ◌+◌, ◌<◌, ◌≤◌, ◌^◌, true, false, true≢false, ◌==◌, List, [], ◌∷◌}
+use Rattle.std.proofs.Common.{◌++◌, length, map, drop, arith, tests}
 use Rattle.std.proofs.Common.{inl, inr}
 use Rattle.std.specs.List.{AllByRecursion, list_any, IsDistinct as IsDistinctBy}
 use Rattle.std.proofs.lemmas.Bool.{cases_eq}

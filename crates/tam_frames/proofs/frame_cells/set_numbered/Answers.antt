@@ -24,7 +24,8 @@ loop-i-preserved c =
     ap (λ (r : CellRow). r.cells) c.set_words.ensures.value ∙ ap (λ (w : ℕ). with_words mid at w i) word_is in
     record {
       put = subst (λ (l : List LinkedCell). ArePut c.args.table.now.cells l c.args.start c.args.words.now (i + 1)) (sym cells_are)
-          (one-more-put c.loop-i.invariant.put (is-set mid at (slice_index c.args.words.now i) i (omega (arith, c.loop-i.invariant.put.length_is, c.requires.there, c.loop-i-test.true))));
+          (one-more-put c.loop-i.invariant.put (is-set mid at (slice_index c.args.words.now i) i
+          (omega (arith, c.loop-i.invariant.put.length_is, c.requires.there, c.loop-i-test.true))));
       kept = ap (λ (r : CellRow). r.room) c.set_words.ensures.value ∙ c.loop-i.invariant.kept;
     }
 

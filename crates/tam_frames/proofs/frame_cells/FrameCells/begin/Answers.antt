@@ -48,7 +48,8 @@ pub invariant_of-self : goal.invariant_of-self
 invariant_of-self c =
     more-held c.self.invariant c.self.view_is
     (begins-by c.self.invariant c.self.view_is c.args.f c.start-start.result c.args.counts.now c.requires.there c.requires.few
-    c.start-start.ensures.value c.put.ensures.value c.put-2.ensures.value c.threads-threads.ensures.value c.slots.ensures.value c.put_numbered.ensures.put c.put_numbered.ensures.kept
+    c.start-start.ensures.value c.put.ensures.value c.put-2.ensures.value c.threads-threads.ensures.value c.slots.ensures.value
+    c.put_numbered.ensures.put c.put_numbered.ensures.kept
     c.put_numbered-2.ensures.put c.put_numbered-2.ensures.kept)
     c.requires.room (omega (arith, c.if-f-self.true))
 
@@ -56,7 +57,8 @@ pub invariant_of-self-else-f-self : goal.invariant_of-self-else-f-self
 invariant_of-self-else-f-self c =
     again-held c.self.invariant c.self.view_is
     (begins-by c.self.invariant c.self.view_is c.args.f c.start-start.result c.args.counts.now c.requires.there c.requires.few
-    c.start-start.ensures.value c.put.ensures.value c.put-2.ensures.value c.threads-threads.ensures.value c.slots.ensures.value c.put_numbered.ensures.put c.put_numbered.ensures.kept
+    c.start-start.ensures.value c.put.ensures.value c.put-2.ensures.value c.threads-threads.ensures.value c.slots.ensures.value
+    c.put_numbered.ensures.put c.put_numbered.ensures.kept
     c.put_numbered-2.ensures.put c.put_numbered-2.ensures.kept)
     (omega (arith, c.if-f-self.false, c.requires.there, count-is c.self.invariant c.self.view_is))
 
@@ -65,7 +67,8 @@ returns-then-f-self c = record {
   value =
       more-view c.self.invariant c.self.view_is
       (begins-by c.self.invariant c.self.view_is c.args.f c.start-start.result c.args.counts.now c.requires.there c.requires.few
-      c.start-start.ensures.value c.put.ensures.value c.put-2.ensures.value c.threads-threads.ensures.value c.slots.ensures.value c.put_numbered.ensures.put c.put_numbered.ensures.kept
+      c.start-start.ensures.value c.put.ensures.value c.put-2.ensures.value c.threads-threads.ensures.value c.slots.ensures.value
+      c.put_numbered.ensures.put c.put_numbered.ensures.kept
       c.put_numbered-2.ensures.put c.put_numbered-2.ensures.kept)
       c.requires.room (omega (arith, c.if-f-self.true))
       ∙ sizes c.args.self.now (kept c.self.inside) c.self.view_is c.args.f c.args.counts.now;
@@ -76,7 +79,8 @@ returns-else-f-self c = record {
   value =
       again-view c.self.invariant c.self.view_is
       (begins-by c.self.invariant c.self.view_is c.args.f c.start-start.result c.args.counts.now c.requires.there c.requires.few
-      c.start-start.ensures.value c.put.ensures.value c.put-2.ensures.value c.threads-threads.ensures.value c.slots.ensures.value c.put_numbered.ensures.put c.put_numbered.ensures.kept
+      c.start-start.ensures.value c.put.ensures.value c.put-2.ensures.value c.threads-threads.ensures.value c.slots.ensures.value
+      c.put_numbered.ensures.put c.put_numbered.ensures.kept
       c.put_numbered-2.ensures.put c.put_numbered-2.ensures.kept)
       (omega (arith, c.if-f-self.false, c.requires.there, count-is c.self.invariant c.self.view_is))
       ∙ sizes c.args.self.now (kept c.self.inside) c.self.view_is c.args.f c.args.counts.now;

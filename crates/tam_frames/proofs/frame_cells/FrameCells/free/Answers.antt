@@ -18,7 +18,8 @@ start-header-requires c =
 
 pub set_words-requires : goal.set_words-requires
 set_words-requires c =
-    let a = is-alone c.self.invariant c.self.view_is c.args.f (c.start-header.result + 1) c.requires.there c.requires.apart (ap (λ (n : ℕ). n + 1) c.start-header.ensures.value) in
+    let a = is-alone c.self.invariant c.self.view_is c.args.f (c.start-header.result + 1) c.requires.there c.requires.apart
+    (ap (λ (n : ℕ). n + 1) c.start-header.ensures.value) in
     let there = header-there c.self.invariant c.args.f a.begun a.not_waiting a.not_free in
     record { there = omega (arith, there, a.header_is) }
 
@@ -35,8 +36,12 @@ record IsUnmarked (c : goal.After-push_front-arg-2-1) : Type 0 where
 is-unmarked : (c : goal.After-push_front-arg-2-1) → IsUnmarked c
 is-unmarked c =
     let s = c.self.inside in
-    let a = is-alone c.self.invariant c.self.view_is c.args.f (c.start-header.result + 1) c.requires.there c.requires.apart (ap (λ (n : ℕ). n + 1) c.start-header.ensures.value) in
-    let table_is : c.set_words.new.self ≡ record s.table { cells = with_words s.table.cells (second_header s.shape.slots s.shape.threads c.args.f) 0 c.args.f } =
+    let a = is-alone c.self.invariant c.self.view_is c.args.f (c.start-header.result + 1) c.requires.there c.requires.apart
+    (ap (λ (n : ℕ). n + 1) c.start-header.ensures.value) in
+    let table_is : c.set_words.new.self ≡ record s.table {
+      cells = with_words s.table.cells (second_header s.shape.slots s.shape.threads c.args.f) 0
+          c.args.f;
+    } =
     c.set_words.ensures.value ∙ ap (λ (i : ℕ). record s.table { cells = with_words s.table.cells i 0 c.args.f }) a.header_is in
     let view = marked-off-view c.self.invariant c.args.f a.begun table_is in
     let queue_same : numbers_of s.table.cells s.queue ≡ numbers_of c.set_words.new.self.cells s.queue = ap (λ (v : HeldFrames). v.queue) (sym view) in

@@ -10,7 +10,11 @@ use Rattle.tam_frames.proofs.frame_store.FrameStore.give.Goals as goal
 
 pub overflow_sub-self : goal.overflow_sub-self
 overflow_sub-self c =
-    omega (arith, some-used c.self.invariant c.args.f (frame_at c.args.self.now.table c.args.f) (there c.self.invariant c.self.view_is c.args.f c.requires.live))
+    omega (
+      arith,
+      some-used c.self.invariant c.args.f (frame_at c.args.self.now.table c.args.f)
+          (there c.self.invariant c.self.view_is c.args.f c.requires.live),
+    )
 
 pub free-requires : goal.free-requires
 free-requires c = record {

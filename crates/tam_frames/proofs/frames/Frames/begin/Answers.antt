@@ -37,7 +37,8 @@ returns-clause-after c =
     let v = with_current s.store s.current in
     let idle = ap (λ (now : StoredFrames). current_of now.table now.table.current) c.self.view_is ∙ c.requires.idle in
     let first = sym next.ensures.value ∙ c.in_ok-f.was in
-    let ready = ap (λ (store : StoredFrames). slice_get (frame_at store.table f).ready 0) (sym next.ensures.rest) ∙ sym c.pop.ensures.value ∙ c.in_ok-thread.was in
+    let ready = ap (λ (store : StoredFrames). slice_get (frame_at store.table f).ready 0) (sym next.ensures.rest) ∙ sym c.pop.ensures.value ∙
+    c.in_ok-thread.was in
     given-view s.store s.current f next.ensures.rest next.ensures.value c.pop.ensures.rest
     ∙ ap (λ (p : Option (ℕ × ℕ) × FrameTable). with_table v p.1) (sym (next-turned v.table idle f c.in_ok-thread.thread first ready))
     ∙ ap (λ (now : StoredFrames). with_table now (next_thread now.table).1) c.self.view_is

@@ -13,6 +13,11 @@ use Rattle.rv_keep.specs.Hosts.{Host, At_poll}
 use Rattle.rv_keep.specs.MachineLaws.{thread_after, poll_after}
 use Rattle.rv_keep.specs.Bounds.{start_bound, event_bound}
 
+-- behind each event after which the thread run goes on, the image's run comes to a poll
+abbrev pub GraphPollsCome : Type 0
+GraphPollsCome = (g : Graph) (args : List ℕ) (order : List Item) (limits : Limits) (n : ℕ) (m : Machine) → IsJob g args limits
+    → thread_after (compiled g) args order limits n ≡ Next m → (s : Host) × (poll_after (compiled g) args order limits n ≡ At_poll s)
+
 -- from the start up to the first poll
 abbrev pub GraphStartBounded : Type 0
 GraphStartBounded = (g : Graph) (args : List ℕ) (order : List Item) (limits : Limits) (s : Host) → IsJob g args limits

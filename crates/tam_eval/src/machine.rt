@@ -33,7 +33,8 @@ pub(crate) fn ready_among(
     i: u32,
     nodes: &[u32],
 ) -> Result<(), AllocError>
-    ensures ok { OnOk result ((g : GraphRecord) (w : WorldRecord) → IsStanding g w i standing.now → pairs_of ready.new.items ≡ pairs_of ready.old.items ++ map (λ x. (i, x)) (filter (is_enabled g w i) nodes.now)) }
+    ensures ok { OnOk result ((g : GraphRecord) (w : WorldRecord) → IsStanding g w i standing.now
+        → pairs_of ready.new.items ≡ pairs_of ready.old.items ++ map (λ x. (i, x)) (filter (is_enabled g w i) nodes.now)) }
 {
     for node in nodes {
         if standing.is_enabled(*node) {

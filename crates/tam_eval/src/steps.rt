@@ -81,7 +81,8 @@ fn ready_at(
     i: u32,
     nodes: &[u32],
 ) -> Result<(), AllocError>
-    ensures ok { OnOk result (pairs_of ready.new.items ≡ pairs_of ready.old.items ++ map (λ x. (i, x)) (filter (is_enabled program.now world.now i) nodes.now)) }
+    ensures ok { OnOk result (pairs_of ready.new.items ≡ pairs_of ready.old.items
+        ++ map (λ x. (i, x)) (filter (is_enabled program.now world.now i) nodes.now)) }
 {
     let standing = Standing::of(program, world, i);
     ready_among(&standing, ready, i, nodes)

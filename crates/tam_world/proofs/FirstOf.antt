@@ -1,5 +1,6 @@
 -- The first of a list that passes a test.
-use Rattle.std.proofs.Common.{◌≡◌, ◌∙◌, ℕ, zero, suc, ◌<◌, Bool, true, false, ◌==◌, ◌&&◌, List, [], ◌∷◌, length, filter, drop, get_or, refl, ap, ap₂, sym, arith}
+use Rattle.std.proofs.Common.{◌≡◌, ◌∙◌, ℕ, zero, suc, ◌<◌, Bool, true, false, ◌==◌, ◌&&◌, List, [], ◌∷◌, length, filter, drop, get_or, refl, ap, ap₂}
+use Rattle.std.proofs.Common.{sym, arith}
 use Rattle.tam_word.specs.Lists.{first_of}
 use Rattle.tam_word.proofs.Tests.{number-eq, eq-number}
 use Rattle.tam_graph.specs.declared.kind.Kind.{Kind}

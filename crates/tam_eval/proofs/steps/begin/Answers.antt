@@ -17,7 +17,8 @@ returns-clause-value c =
     let more : pairs_of c.ready_all.new.ready.items ≡ s.ready ++ map (λ z. (number, z)) (starters_of (code_of c.args.program.now c.args.code)) =
     rw (c.starters.ensures.value) at c.in_ok-ready_all.ensures.ok in
     on_ok c.send.result (λ (sent : c.send.new.pending.messages ≡ s.pending ++ Carry c.args.call.activation c.args.call.node number ∷ []).
-    state-begun c.args.program.now s c.args.code c.args.call.activation c.args.call.node number c.begin_with_room.new.self (pairs_of c.ready_all.new.ready.items)
+    state-begun c.args.program.now s c.args.code c.args.call.activation c.args.call.node number c.begin_with_room.new.self
+    (pairs_of c.ready_all.new.ready.items)
     c.send.new.pending.messages c.in_ok-begin_with_room.ensures.ok count more sent) c.send.ensures.ok
 
 pub returns-clause-counts : goal.returns-clause-counts

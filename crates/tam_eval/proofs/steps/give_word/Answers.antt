@@ -48,7 +48,8 @@ less-requires c =
     let none : has_word s.world i y ≡ false = sym c.has_word-had.ensures.value ∙ c.if-had.false in
     let takers = takers-are g s c.give.new.self i y c.args.word c.of-standing.result.code c.takers-takers.result.now none
     c.in_ok-give.ensures.ok c.of-standing.ensures.value.code c.takers-takers.ensures.value in
-    let awaited : is_awaited g s.world i y ≡ true = sym (awaited-then g s.world c.give.new.self i y c.args.word c.in_ok-give.ensures.ok) ∙ sym (c.is_awaited-awaited.ensures.value c.give.new.self i c.of-standing.ensures.value) ∙ c.if-awaited.true in
+    let awaited : is_awaited g s.world i y ≡ true = sym (awaited-then g s.world c.give.new.self i y c.args.word c.in_ok-give.ensures.ok) ∙ sym
+    (c.is_awaited-awaited.ensures.value c.give.new.self i c.of-standing.ensures.value) ∙ c.if-awaited.true in
     let is : record s { world = c.give.new.self; ready = pairs_of c.ready_among.new.ready.items } ≡ effected g s (changes (got s.world i y c.args.word)) =
     state-got g s i y c.args.word c.give.new.self (pairs_of c.ready_among.new.ready.items) c.in_ok-give.ensures.ok
     (rw takers at (c.in_ok-ready_among.ensures.ok c.args.program.now c.give.new.self c.of-standing.ensures.value)) in
@@ -90,7 +91,8 @@ returns-then-awaited-clause-counts c =
     let none : has_word s.world i y ≡ false = sym c.has_word-had.ensures.value ∙ c.if-had.false in
     let takers = takers-are g s c.give.new.self i y c.args.word c.of-standing.result.code c.takers-takers.result.now none
     c.in_ok-give.ensures.ok c.of-standing.ensures.value.code c.takers-takers.ensures.value in
-    let awaited : is_awaited g s.world i y ≡ true = sym (awaited-then g s.world c.give.new.self i y c.args.word c.in_ok-give.ensures.ok) ∙ sym (c.is_awaited-awaited.ensures.value c.give.new.self i c.of-standing.ensures.value) ∙ c.if-awaited.true in
+    let awaited : is_awaited g s.world i y ≡ true = sym (awaited-then g s.world c.give.new.self i y c.args.word c.in_ok-give.ensures.ok) ∙ sym
+    (c.is_awaited-awaited.ensures.value c.give.new.self i c.of-standing.ensures.value) ∙ c.if-awaited.true in
     let t : EvalState = record s { world = c.give.new.self; ready = pairs_of c.ready_among.new.ready.items } in
     let is : t ≡ effected g s (changes (got s.world i y c.args.word)) =
     state-got g s i y c.args.word c.give.new.self (pairs_of c.ready_among.new.ready.items) c.in_ok-give.ensures.ok
@@ -108,7 +110,8 @@ returns-else-awaited-clause-counts c =
     let none : has_word s.world i y ≡ false = sym c.has_word-had.ensures.value ∙ c.if-had.false in
     let takers = takers-are g s c.give.new.self i y c.args.word c.of-standing.result.code c.takers-takers.result.now none
     c.in_ok-give.ensures.ok c.of-standing.ensures.value.code c.takers-takers.ensures.value in
-    let unawaited : is_awaited g s.world i y ≡ false = sym (awaited-then g s.world c.give.new.self i y c.args.word c.in_ok-give.ensures.ok) ∙ sym (c.is_awaited-awaited.ensures.value c.give.new.self i c.of-standing.ensures.value) ∙ c.if-awaited.false in
+    let unawaited : is_awaited g s.world i y ≡ false = sym (awaited-then g s.world c.give.new.self i y c.args.word c.in_ok-give.ensures.ok) ∙ sym
+    (c.is_awaited-awaited.ensures.value c.give.new.self i c.of-standing.ensures.value) ∙ c.if-awaited.false in
     let t : EvalState = record s { world = c.give.new.self; ready = pairs_of c.ready_among.new.ready.items } in
     let is : t ≡ effected g s (changes (got s.world i y c.args.word)) =
     state-got g s i y c.args.word c.give.new.self (pairs_of c.ready_among.new.ready.items) c.in_ok-give.ensures.ok

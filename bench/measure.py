@@ -88,7 +88,7 @@ def measure_runs(program):
         for count in (50, 100, 200):
             measure(program, mode, f"a ladder of {count}", texts.ladder(count), ["--args=0", *room])
     for depth in (4_096, 8_192, 16_384):
-        measure(program, "tl0", f"{depth} frames of a wide code", texts.deep(7), [f"--args={depth - 2}", *room])
+        measure(program, "tl0", f"{depth} frames of a code of 1,023 nodes", texts.deep(8, 119), [f"--args={depth - 2}", *room])
 
 
 def measure_words(program):

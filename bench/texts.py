@@ -145,14 +145,14 @@ def ladder(count):
     return "\n".join(lines) + "\n"
 
 
-def deep(conds):
-    """A recursion as deep as its argument, of a code with so many further conds of 120 nodes each, none of which is entered."""
+def deep(conds, adds):
+    """A recursion as deep as its argument, of a code with so many further conds of so many additions each: 15 nodes, and 7 and the additions for each cond."""
     lines = ["dg 1", "code main", "n = param 0", "f = call deep", "arg f 0 n", "r = ret f 0", "result 0 r", "end"]
     lines += ["code deep", "n = param 0", "c = cond n", "m = in 0", "one = const 1", "k = sub m one", "f = call deep", "arg f 0 k", "r = ret f 0", "out 0 r"]
     lines += ["else", "z = in 0", "out 0 z", "end", "switch c 0 n", "v = merge c 0", "zero = const 0"]
     for number in range(conds):
         lines += [f"d{number} = cond zero", f"a{number} = in 0"]
-        lines += [f"b{number}_{k} = add a{number} a{number}" for k in range(120)]
+        lines += [f"b{number}_{k} = add a{number} a{number}" for k in range(adds)]
         lines += [f"out 0 a{number}", "else", f"e{number} = in 0", f"out 0 e{number}", "end"]
         lines += [f"switch d{number} 0 n", f"w{number} = merge d{number} 0"]
     lines += ["result 0 v", "end"]

@@ -4,14 +4,15 @@ use Rattle.std.proofs.Common.{◌++◌, length, get_or, set, replicate, refl, sy
 use Rattle.std.proofs.lemmas.Bool.{cases_eq}
 use Rattle.std.proofs.lemmas.List.{get_or_read, get_or-set_same, get_or-set_other, length-set, length-replicate, length-append}
 use Rattle.rv_inst.specs.Instructions.{decoded}
-use Rattle.rv_inst.specs.Harts.{Hart, read_at, written_at}
+use Rattle.rv_inst.specs.Harts.{Hart, Done, read_at, written_at}
 use Rattle.rv_inst.specs.Images.{bytes_of_words}
 use Rattle.rv_inst.proofs.Bytes.{length-bytes_of_words}
 use Rattle.rv_inst.proofs.Memory.{length-written, read-before, read-behind}
 use Rattle.rv_inst.proofs.Signed.{below-or-not}
 use Rattle.rv_machine.specs.declared.kept_inst.KeptInst.{KeptInst}
 use Rattle.rv_machine.specs.Keeping.{AreDecoded, told, unknown, step_at}
-use Rattle.std.specs.Prelude.{Option, Some, None}
+use Rattle.rv_machine.specs.Runs.{at}
+use Rattle.std.specs.Prelude.{Option, Some, None, IfSome}
 use Rattle.rv_inst.specs.declared.inst.Inst.{Inst}
 use Rattle.rv_inst.specs.Execution.{hart_step}
 use Rattle.std.proofs.lemmas.Grind.{common_steps}
@@ -60,6 +61,14 @@ pub step_at-known : (h : Hart) (entry : Option Inst) → h.pc + 4 ≤ length h.m
     → step_at h entry ≡ hart_step h
 step_at-known h None l known = refl
 step_at-known h (Some i) l known = let d : decoded (read_at h.memory h.pc 4) ≡ i ∷ [] = known i refl in grind (arith, common_steps)
+
+-- so where the step at the entry goes on to an address, whatever the number of steps, the machine's does
+pub known-goes_on : (old new : Hart) (pc : ℕ) (entry : Option Inst) (out : Option ℕ) → pc + 4 ≤ length old.memory
+    → ((i : Inst) → entry ≡ Some i → decoded (read_at old.memory pc 4) ≡ i ∷ [])
+    → IfSome out (λ to. (n : ℕ) → step_at (at old pc n) entry ≡ Done (at new to (n + 1)))
+    → IfSome out (λ to. (n : ℕ) → hart_step (at old pc n) ≡ Done (at new to (n + 1)))
+known-goes_on old new pc entry None l known goes = tt
+known-goes_on old new pc entry (Some to) l known goes = λ n. sym (step_at-known (at old pc n) entry l known) ∙ goes n
 
 -- a write within a word leaves each other word as it was
 other-read : (memory : List ℕ) (a n w k : ℕ) → a % 4 + n ≤ 4 → a + n ≤ length memory → k ≢ a / 4

@@ -1,10 +1,11 @@
 -- What is next behind one instruction, and what many steps come to.
 -- The rules in words: docs/MACHINE.md, "RV32IM".
-use Rattle.std.specs.Prelude.{ℕ, ◌≡◌, ◌+◌, ◌<◌}
+use Rattle.std.specs.Prelude.{ℕ, ◌≡◌, ◌+◌, ◌<◌, Result, Ok, Err}
 use Rattle.tam_word.specs.Words.{wrapped}
 use Rattle.rv_inst.specs.Harts.{Hart, Step, Done, Called, Trapped}
 use Rattle.rv_inst.specs.Execution.{hart_step}
 use Rattle.rv_inst.specs.Steps.{Comes, Calls}
+use Rattle.rv_inst.specs.declared.trap_cause.TrapCause.{TrapCause}
 use Rattle.rv_machine.specs.declared.next.Next.{Next}
 use Rattle.rv_machine.specs.declared.next.Next.TheVariants.{On, Call, Trap as Stops}
 use Rattle.rv_machine.specs.declared.rv_step.RvStep.{RvStep}
@@ -22,6 +23,11 @@ abbrev pub step_to : Hart → ℕ → Next → ℕ → Step
 step_to h pc (On to) steps = Done (at h to (steps + 1))
 step_to h pc Call steps = Called (at h (wrapped (pc + 4)) (steps + 1))
 step_to h pc (Stops cause) steps = Trapped pc cause
+
+-- the same of an instruction behind which is the one at an address, or that traps
+abbrev pub goes_to : Hart → ℕ → Result ℕ TrapCause → ℕ → Step
+goes_to h pc (Ok to) steps = Done (at h to (steps + 1))
+goes_to h pc (Err cause) steps = Trapped pc cause
 
 -- a trap leaves the machine as it was
 abbrev pub Stays : Hart → Hart → Next → Type 0

@@ -1,5 +1,6 @@
 // An instruction in eight bytes.
-ghost use Rattle.std.specs.Prelude.{◌≡◌, Some};
+ghost use Rattle.std.specs.Prelude.{◌≡◌, Some, IsTrue};
+ghost use Rattle.rv_inst.specs.declared.inst.Inst.TheVariants.{Ecall};
 ghost use Rattle.rv_machine.specs.Keeping.{told, unknown};
 
 use crate::kept_reg::KeptReg;
@@ -39,6 +40,13 @@ impl KeptInst {
             operation: self.operation,
             ..*self
         }
+    }
+
+    /// Whether it is a call of the host.
+    pub fn is_call(&self) -> bool
+        ensures value { IsTrue result → told self.now ≡ Some Ecall }
+    {
+        matches!(self.operation, Operation::Ecall)
     }
 
     /// That instruction.

@@ -1,11 +1,11 @@
 // The machine.
-ghost use Rattle.std.specs.Prelude.{ℕ, ◌≡◌, ◌%◌, ◌<◌, ◌≤◌, ◌*◌, ◌^◌, ◌++◌, replicate, IfOk};
+ghost use Rattle.std.specs.Prelude.{ℕ, ◌≡◌, ◌+◌, ◌%◌, ◌<◌, ◌≤◌, ◌*◌, ◌^◌, ◌++◌, replicate, IfOk, IfErr, IfSome, IfNone};
 ghost use Rattle.tam_word.specs.Words.{wrapped};
-ghost use Rattle.rv_inst.specs.Harts.{reg, with_reg};
+ghost use Rattle.rv_inst.specs.Harts.{reg, with_reg, Done};
 ghost use Rattle.rv_inst.specs.Execution.{hart_step, jump, load_from, store_to};
 ghost use Rattle.rv_inst.specs.Images.{bytes_of_words, hart_opening};
 ghost use Rattle.rv_machine.specs.Answers.{answer, state_after};
-ghost use Rattle.rv_machine.specs.Runs.{IsRun, at, step_to, Stays};
+ghost use Rattle.rv_machine.specs.Runs.{IsRun, at, step_to, goes_to, Stays};
 
 use crate::execute::{carry_out, carry_out_anew};
 use crate::kept_instructions::KeptInstructions;
@@ -84,7 +84,12 @@ impl Rv {
         let mut pc = self.pc;
         let mut done = 0;
         while done < most {
-            match self.next(pc) {
+            if let Some(to) = self.next_kept(pc) {
+                pc = to;
+                done += 1;
+                continue;
+            }
+            match self.next_anew(pc) {
                 Next::On(to) => {
                     pc = to;
                     done += 1;
@@ -113,28 +118,30 @@ impl Rv {
         }
     }
 
-    // Carries out the instruction at pc, which is kept beside the machine; so is the number of steps.
+    // Carries out the instruction at pc, which is kept beside the machine, as is the number of steps: the address behind it; or none, and the machine stays
+    // as it was, where the instruction isn't known, or where no other is next behind it.
     #[inline(always)]
-    fn next(&mut self, pc: WordAddress) -> Next
-        ensures value { (n : ℕ) → hart_step (at self.old pc n) ≡ step_to self.new pc result n }
-        ensures kept { Stays self.old self.new result }
+    fn next_kept(&mut self, pc: WordAddress) -> Option<WordAddress>
+        ensures value { IfSome result (λ to. (n : ℕ) → hart_step (at self.old pc n) ≡ Done (at self.new to (n + 1))) }
+        ensures kept { IfNone result (self.new ≡ self.old) }
     {
-        match self.kept.at(pc.number()) {
-            Some(inst) => {
-                let inst = inst.by_fields();
-                carry_out(self, pc, &inst)
-            }
-            None => self.next_anew(pc),
-        }
+        let inst = self.kept.at(pc.number())?.by_fields();
+        carry_out(self, pc, &inst)
     }
 
-    // The same where the instruction isn't kept: it is decoded from the word in the memory, and kept where it is one of the image's.
+    // Carries out the instruction at pc, decoded from the word in the memory, and keeps it where it is one of the image's. A call that is kept needs no
+    // decoding.
     #[cold]
     #[inline(never)]
     pub(crate) fn next_anew(&mut self, pc: WordAddress) -> Next
         ensures value { (n : ℕ) → hart_step (at self.old pc n) ≡ step_to self.new pc result n }
         ensures kept { Stays self.old self.new result }
     {
+        if let Some(inst) = self.kept.at(pc.number())
+            && inst.is_call()
+        {
+            return Next::Call;
+        }
         let at = pc.number() as usize;
         if at + 4 > self.memory.len() {
             return Next::Trap(TrapCause::FetchAddress);
@@ -191,15 +198,20 @@ impl Rv {
 
     // A jump from pc, with the return address in rd.
     #[inline(always)]
-    pub(crate) fn jump(&mut self, pc: WordAddress, rd: KeptReg, to: u32) -> Next
-        ensures value { (n : ℕ) → jump (at self.old pc n) rd to ≡ step_to self.new pc result n }
-        ensures kept { Stays self.old self.new result }
+    pub(crate) fn jump(
+        &mut self,
+        pc: WordAddress,
+        rd: KeptReg,
+        to: u32,
+    ) -> Result<WordAddress, TrapCause>
+        ensures value { (n : ℕ) → jump (at self.old pc n) rd to ≡ goes_to self.new pc result n }
+        ensures kept { IfErr result (λ cause. self.new ≡ self.old) }
     {
         if to % 4 != 0 {
-            return Next::Trap(TrapCause::JumpAlign);
+            return Err(TrapCause::JumpAlign);
         }
         self.set_reg(rd.number(), pc.next().number());
-        Next::On(WordAddress::of(to))
+        Ok(WordAddress::of(to))
     }
 
     // A load from an address.
@@ -210,20 +222,20 @@ impl Rv {
         name: LoadName,
         rd: KeptReg,
         address: u32,
-    ) -> Next
-        ensures value { (n : ℕ) → load_from (at self.old pc n) name rd address ≡ step_to self.new pc result n }
-        ensures kept { Stays self.old self.new result }
+    ) -> Result<WordAddress, TrapCause>
+        ensures value { (n : ℕ) → load_from (at self.old pc n) name rd address ≡ goes_to self.new pc result n }
+        ensures kept { IfErr result (λ cause. self.new ≡ self.old) }
     {
         let size = load_size(name);
         if address % size != 0 {
-            return Next::Trap(TrapCause::LoadAlign);
+            return Err(TrapCause::LoadAlign);
         }
         if address as usize + size as usize > self.memory.len() {
-            return Next::Trap(TrapCause::LoadAddress);
+            return Err(TrapCause::LoadAddress);
         }
         let word = load(&self.memory, name, address as usize);
         self.set_reg(rd.number(), word);
-        Next::On(pc.next())
+        Ok(pc.next())
     }
 
     // A store to an address.
@@ -234,20 +246,20 @@ impl Rv {
         name: StoreName,
         address: u32,
         word: u32,
-    ) -> Next
-        ensures value { (n : ℕ) → store_to (at self.old pc n) name address word ≡ step_to self.new pc result n }
-        ensures kept { Stays self.old self.new result }
+    ) -> Result<WordAddress, TrapCause>
+        ensures value { (n : ℕ) → store_to (at self.old pc n) name address word ≡ goes_to self.new pc result n }
+        ensures kept { IfErr result (λ cause. self.new ≡ self.old) }
     {
         let size = store_size(name);
         if address % size != 0 {
-            return Next::Trap(TrapCause::StoreAlign);
+            return Err(TrapCause::StoreAlign);
         }
         if address as usize + size as usize > self.memory.len() {
-            return Next::Trap(TrapCause::StoreAddress);
+            return Err(TrapCause::StoreAddress);
         }
         store(&mut self.memory, name, address as usize, word);
         self.kept.forget(address);
-        Next::On(pc.next())
+        Ok(pc.next())
     }
 }
 

@@ -9,8 +9,10 @@ use Rattle.tam_fire.specs.FiringRules.{Result}
 use Rattle.tam_msgs.specs.declared.limits.Limits.{Limits}
 use Rattle.tam_msgs.specs.Runs.{End, Quiet, Double_write, Out_of_range, Frames_full, Cells_full, Budget_spent, Wild, Trap, Report, missing_of, is_without}
 use Rattle.tam_run.specs.declared.level.Level.TheVariants as level
+use Rattle.tam_run.specs.Levels.{told_at}
 use Rattle.tam_flow.specs.Headline.{IsRight, LinesDiffer, HasCause}
-use Rattle.tam_run.specs.RightRuns.{RunsAreBorneOut, RunsAreRight, HasRoom, RoomIsQuiet, LiveRoomIsQuiet, SameLines, QuietRunsAgree, NoResultIsMissing}
+use Rattle.tam_run.specs.RightRuns.{RunsAreBorneOut, RunsAreRight, HasRoom, RoomIsQuiet, LiveRoomIsQuiet, NoResultIsMissing}
+use Rattle.tam_run.specs.RightRuns.{SameLines, QuietRunsAgree, QuietLevelsAgree}
 use Rattle.tam_flow.proofs.JournalResults.{contains-in, in-contains}
 use Rattle.tam_flow.proofs.RightJournals.{borne-right}
 use Rattle.tam_run.proofs.GraphJournals.{run-borne}
@@ -224,6 +226,13 @@ live_room-is-quiet quiet images level.Rv32 g args order limits job room suffice 
 pub quiet_runs-agree : QuietRunsAgree
 quiet_runs-agree g all others args limits more r s a b p q =
     same-lines g args r s limits more (borne-right g all args limits r a) (borne-right g others args more s b) p q (a.results ∙ sym b.results)
+
+-- so do those of two levels
+pub quiet_levels-agree : RunsAreBorneOut → QuietLevelsAgree
+quiet_levels-agree borne one other g args order items limits more job again p q =
+    let r = borne one g args order limits job.accepted job.arguments job.ranges in
+    let s = borne other g args items more again.accepted again.arguments again.ranges in
+    quiet_runs-agree g r.0 s.0 args limits more (told_at one g args order limits) (told_at other g args items more) r.1 s.1 p q
 
 -- no result is missing
 pub no_result-is_missing : NoResultIsMissing

@@ -65,6 +65,12 @@ abbrev pub QuietRunsAgree : Type 0
 QuietRunsAgree = (g : Graph) (all others : Partitions) (args : List ℕ) (limits more : Limits) (r s : Report) → IsBorneOut g all args limits r
     → IsBorneOut g others args more s → r.how ≡ Quiet → s.how ≡ Quiet → SameLines r s
 
+-- so do quiet runs at any two levels, be they the same or not
+abbrev pub QuietLevelsAgree : Type 0
+QuietLevelsAgree = (one other : Level) (g : Graph) (args : List ℕ) (order items : List Item) (limits more : Limits) → IsJob g args limits → IsJob g args more
+    → (told_at one g args order limits).how ≡ Quiet → (told_at other g args items more).how ≡ Quiet
+    → SameLines (told_at one g args order limits) (told_at other g args items more)
+
 -- no result that the rules give is missing
 abbrev pub NoResultIsMissing : Type 0
 NoResultIsMissing = (g : Graph) (all : Partitions) (args : List ℕ) (limits : Limits) (r : Report) (k w : ℕ) → IsBorneOut g all args limits r

@@ -1,8 +1,8 @@
 //! The law of runs, as the contract of a function with an empty body.
 
 ghost use Rattle.tam_run.specs.GraphNames.{GraphNamesAreLive, GraphEndNamesAreLive};
-ghost use Rattle.tam_run.specs.RightRuns.{RunsAreBorneOut, RunsAreRight, RoomIsQuiet, LiveRoomIsQuiet, QuietRunsAgree, NoResultIsMissing};
-ghost use Rattle.tam_run.specs.RightRuns.{MachineTellsThreads, TextsAreTold};
+ghost use Rattle.tam_run.specs.RightRuns.{RunsAreBorneOut, RunsAreRight, RoomIsQuiet, LiveRoomIsQuiet, QuietRunsAgree, QuietLevelsAgree};
+ghost use Rattle.tam_run.specs.RightRuns.{NoResultIsMissing, MachineTellsThreads, TextsAreTold};
 
 use tam_fits::laws::{law_images, law_room};
 use tl0_keep::laws::{law_quiet, law_threads};
@@ -16,6 +16,7 @@ pub fn law_runs()
     ensures room { RoomIsQuiet }
     ensures live { LiveRoomIsQuiet }
     ensures agree { QuietRunsAgree }
+    ensures levels_agree { QuietLevelsAgree }
     ensures not_missing { NoResultIsMissing }
     ensures machine { MachineTellsThreads }
     ensures texts { TextsAreTold }
